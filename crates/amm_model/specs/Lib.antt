@@ -1,0 +1,13 @@
+pub mod Refusals
+pub mod Outcome
+pub mod Order
+pub mod Routing
+pub mod Ledger
+pub mod Codes
+pub mod Root
+pub mod Swap
+pub mod Formulas
+pub mod Pools
+pub mod Operations
+pub mod Sound
+pub mod Lines

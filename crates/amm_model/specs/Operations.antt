@@ -1,0 +1,210 @@
+-- What the operations of a pair do to the ledger.
+use Rattle.std.specs.Prelude.{◌≡◌, ℕ, ◌+◌, ◌-◌, ◌*◌, ◌/◌, ◌==◌, ◌<◌, ◌≤◌, Bool, true, false, not, ◌&&◌, ◌||◌, nat_lt, nat_le, List, Option, Some, None, Result, Ok, Err, if◌then◌else◌}
+use Rattle.amm_names.specs.declared.holder.Holder.{Holder}
+use Rattle.amm_names.specs.declared.holder.Holder.TheVariants as holder
+use Rattle.amm_names.specs.declared.holder.Asset.TheVariants as asset
+use Rattle.amm_model.specs.declared.pair.PairRecord.{PairRecord}
+use Rattle.amm_model.specs.declared.pair.MintReceipt.{MintReceipt}
+use Rattle.amm_model.specs.declared.pair.BurnReceipt.{BurnReceipt}
+use Rattle.amm_model.specs.declared.pair.SwapReceipt.{SwapReceipt}
+use Rattle.amm_model.specs.declared.pair.SkimReceipt.{SkimReceipt}
+use Rattle.amm_model.specs.declared.fault.Refusal.{Refusal}
+use Rattle.amm_model.specs.declared.fault.Refusal.TheVariants as code
+use Rattle.amm_model.specs.Outcome.{◌>>=◌, refuse_if}
+use Rattle.amm_names.specs.Pools.{pool_token0, pool_token1, pool_fee}
+use Rattle.amm_model.specs.Root.{root_of}
+use Rattle.amm_model.specs.Swap.{admits}
+use Rattle.amm_model.specs.Formulas.{later_shares_of, fee_shares_of, accumulated}
+use Rattle.amm_model.specs.Pools.{same_name, asset0, asset1, held0, held1, supply, reserve_limit, first_locked, Terms}
+use Rattle.amm_model.specs.Ledger.{Ledger, Outcome, done, balance, added, transfer, retire, pair_of, with_pair}
+
+-- the pair of a pool, if it has one
+abbrev pub if_there : Option PairRecord → Result PairRecord Refusal
+if_there None = Err code.NoPair
+if_there (Some pair) = Ok pair
+
+-- the pair, if it is not locked
+abbrev pub if_free : Option PairRecord → Result PairRecord Refusal
+if_free None = Err code.NoPair
+if_free (Some pair) = if pair.locked then Err code.Locked else Ok pair
+
+abbrev pub free_pair : Ledger → List ℕ → Result PairRecord Refusal
+free_pair ledger pool = if_free (pair_of ledger.pairs pool)
+
+-- ---- update
+
+-- the record with these reserves, after the accumulators have grown
+abbrev pub renewed : PairRecord → (time b0 b1 : ℕ) → PairRecord
+renewed pair time b0 b1 = record (accumulated pair time) { r0 = b0; r1 = b1 }
+
+-- the pair's record with what the pool has as its reserves
+unfoldable pub updated : Ledger → List ℕ → PairRecord → Result PairRecord Refusal
+updated ledger pool pair =
+    if nat_lt reserve_limit (held0 ledger pool) then Err code.Overflow
+    else (if nat_lt reserve_limit (held1 ledger pool) then Err code.Overflow
+    else Ok (renewed pair ledger.time (held0 ledger pool) (held1 ledger pool)))
+
+unfoldable pub sync : Ledger → List ℕ → Outcome (Unit {0})
+sync ledger pool = do
+  pair ← free_pair ledger pool
+  new ← updated ledger pool pair
+  done (with_pair ledger pool new)
+
+-- what the pool has above its reserves
+abbrev pub excess : Ledger → List ℕ → PairRecord → SkimReceipt
+excess ledger pool pair = record { sent0 = held0 ledger pool - pair.r0; sent1 = held1 ledger pool - pair.r1 }
+
+unfoldable pub skim : Ledger → List ℕ → Holder → Outcome SkimReceipt
+skim ledger pool to = do
+  pair ← free_pair ledger pool
+  first ← transfer ledger (asset0 pool) (holder.Pool pool) to (held0 ledger pool - pair.r0)
+  second ← transfer first.ledger (asset1 pool) (holder.Pool pool) to (held1 ledger pool - pair.r1)
+  Ok (record { ledger = second.ledger; answer = excess ledger pool pair })
+
+-- ---- loans and swaps
+
+abbrev pub locked : PairRecord → PairRecord
+locked pair = record pair { locked = true }
+
+abbrev pub unlocked : PairRecord → PairRecord
+unlocked pair = record pair { locked = false }
+
+-- whether the holder is one of the pool's two tokens
+abbrev pub is_token_of : List ℕ → Holder → Bool
+is_token_of pool (holder.Token name) = same_name name (pool_token0 pool) || same_name name (pool_token1 pool)
+is_token_of pool other = false
+
+-- a loan of the pool, and the record that it keeps
+unfoldable pub lend : Ledger → List ℕ → (out0 out1 : ℕ) → Holder → Outcome PairRecord
+lend ledger pool out0 out1 to = do
+  pair ← free_pair ledger pool
+  _ ← refuse_if (out0 == 0 && out1 == 0) code.InsufficientOutputAmount
+  _ ← refuse_if (nat_le pair.r0 out0 || nat_le pair.r1 out1) code.InsufficientLiquidity
+  _ ← refuse_if (is_token_of pool to) code.InvalidTo
+  first ← transfer (with_pair ledger pool (locked pair)) (asset0 pool) (holder.Pool pool) to out0
+  second ← transfer first.ledger (asset1 pool) (holder.Pool pool) to out1
+  Ok (record { ledger = second.ledger; answer = locked pair })
+
+-- the same, with the terms of the loan
+abbrev pub open_loan : Ledger → List ℕ → (out0 out1 : ℕ) → Holder → Outcome Terms
+open_loan ledger pool out0 out1 to = do
+  lent ← lend ledger pool out0 out1 to
+  Ok (record { ledger = lent.ledger; answer = record { pool = pool; out0 = out0; out1 = out1; pair = lent.answer } })
+
+-- what has come in since the outputs went out
+abbrev pub came_in : Ledger → List ℕ → PairRecord → (out0 out1 : ℕ) → SwapReceipt
+came_in ledger pool pair out0 out1 = record { in0 = held0 ledger pool - (pair.r0 - out0); in1 = held1 ledger pool - (pair.r1 - out1); out0 = out0; out1 = out1 }
+
+-- whether what the pool has keeps the product, at the pool's fee
+abbrev pub keeps_product : Ledger → List ℕ → PairRecord → SwapReceipt → Bool
+keeps_product ledger pool pair paid = admits (pool_fee pool) pair.r0 pair.r1 (held0 ledger pool) (held1 ledger pool) paid.in0 paid.in1
+
+unfoldable pub give_back : Ledger → List ℕ → (out0 out1 : ℕ) → Outcome SwapReceipt
+give_back ledger pool out0 out1 = do
+  pair ← if_there (pair_of ledger.pairs pool)
+  _ ← refuse_if ((came_in ledger pool pair out0 out1).in0 == 0 && (came_in ledger pool pair out0 out1).in1 == 0) code.InsufficientInputAmount
+  _ ← refuse_if (not (keeps_product ledger pool pair (came_in ledger pool pair out0 out1))) code.K
+  new ← updated ledger pool pair
+  Ok (record { ledger = with_pair ledger pool (unlocked new); answer = came_in ledger pool pair out0 out1 })
+
+unfoldable pub swap : Ledger → List ℕ → (out0 out1 : ℕ) → Holder → Outcome SwapReceipt
+swap ledger pool out0 out1 to = do
+  lent ← lend ledger pool out0 out1 to
+  give_back lent.ledger pool out0 out1
+
+-- ---- the protocol's fee
+
+abbrev pub is_nobody : Holder → Bool
+is_nobody holder.Zero = true
+is_nobody other = false
+
+-- the shares that the protocol gets before a mint or a burn
+unfoldable pub fee_due : Ledger → List ℕ → PairRecord → ℕ
+fee_due ledger pool pair = if is_nobody ledger.fee_to then 0 else fee_shares_of (supply ledger pool) pair.r0 pair.r1 pair.k_last
+
+-- the ledger with these shares given to who gets the fee
+unfoldable pub with_fee : Ledger → List ℕ → ℕ → Ledger
+with_fee ledger pool fee = if fee == 0 then ledger else added ledger (asset.Share pool) ledger.fee_to fee
+
+-- the record while the fee is taken: with nobody to get it, no product is kept
+abbrev pub after_fee : Bool → PairRecord → PairRecord
+after_fee nobody pair = if nobody then record pair { k_last = 0 } else pair
+
+-- the record at the end of a mint or a burn: with somebody to get the fee, its product is kept
+abbrev pub with_product : Bool → PairRecord → PairRecord
+with_product nobody pair = if nobody then pair else record pair { k_last = pair.r0 * pair.r1 }
+
+-- ---- mint
+
+-- the shares for what was brought, of a supply
+unfoldable pub shares_for : Ledger → List ℕ → PairRecord → (supply : ℕ) → ℕ
+shares_for ledger pool pair supply =
+    if supply == 0 then root_of ((held0 ledger pool - pair.r0) * (held1 ledger pool - pair.r1)) - first_locked
+    else later_shares_of (held0 ledger pool - pair.r0) (held1 ledger pool - pair.r1) supply pair.r0 pair.r1
+
+-- the ledger with n shares given, of a supply; the first lock some with the zero holder
+unfoldable pub with_shares : Ledger → List ℕ → Holder → (supply n : ℕ) → Ledger
+with_shares ledger pool to supply n =
+    if supply == 0 then added (added ledger (asset.Share pool) to n) (asset.Share pool) holder.Zero first_locked
+    else added ledger (asset.Share pool) to n
+
+-- the ledger with the fee and n shares given
+abbrev pub minted : Ledger → List ℕ → Holder → (fee n : ℕ) → Ledger
+minted ledger pool to fee n = with_shares (with_fee ledger pool fee) pool to (supply ledger pool + fee) n
+
+abbrev pub mint_shares : Ledger → List ℕ → PairRecord → Holder → (fee n : ℕ) → Outcome MintReceipt
+mint_shares ledger pool pair to fee n = do
+  _ ← refuse_if (n == 0) code.InsufficientLiquidityMinted
+  new ← updated (minted ledger pool to fee n) pool (after_fee (is_nobody ledger.fee_to) pair)
+  Ok (record { ledger = with_pair (minted ledger pool to fee n) pool (with_product (is_nobody ledger.fee_to) new); answer = record { shares = n; fee_shares = fee } })
+
+abbrev pub mint_free : Ledger → List ℕ → PairRecord → Holder → ℕ → Outcome MintReceipt
+mint_free ledger pool pair to fee = mint_shares ledger pool pair to fee (shares_for ledger pool pair (supply ledger pool + fee))
+
+unfoldable pub mint : Ledger → List ℕ → Holder → Outcome MintReceipt
+mint ledger pool to = do
+  pair ← free_pair ledger pool
+  mint_free ledger pool pair to (fee_due ledger pool pair)
+
+-- ---- burn
+
+-- the shares that the pool has of itself
+abbrev pub own_shares : Ledger → List ℕ → ℕ
+own_shares ledger pool = balance ledger (asset.Share pool) (holder.Pool pool)
+
+-- what the pool's own shares stand for, of a supply
+unfoldable pub parts_of : Ledger → List ℕ → (supply fee : ℕ) → BurnReceipt
+parts_of ledger pool supply fee = record {
+  amount0 = own_shares ledger pool * held0 ledger pool / supply;
+  amount1 = own_shares ledger pool * held1 ledger pool / supply;
+  fee_shares = fee;
+}
+
+-- the shares end and the parts are sent
+unfoldable pub pay_out : Ledger → List ℕ → Holder → (shares : ℕ) → BurnReceipt → Outcome (Unit {0})
+pay_out ledger pool to shares parts = do
+  fewer ← retire ledger (asset.Share pool) (holder.Pool pool) shares
+  first ← transfer fewer.ledger (asset0 pool) (holder.Pool pool) to parts.amount0
+  transfer first.ledger (asset1 pool) (holder.Pool pool) to parts.amount1
+
+abbrev pub burn_parts : Ledger → List ℕ → PairRecord → Holder → (fee : ℕ) → BurnReceipt → Outcome BurnReceipt
+burn_parts ledger pool pair to fee parts = do
+  _ ← refuse_if (supply ledger pool + fee == 0) code.InsufficientLiquidityBurned
+  _ ← refuse_if (parts.amount0 == 0 || parts.amount1 == 0) code.InsufficientLiquidityBurned
+  paid ← pay_out (with_fee ledger pool fee) pool to (own_shares ledger pool) parts
+  new ← updated paid.ledger pool (after_fee (is_nobody ledger.fee_to) pair)
+  Ok (record { ledger = with_pair paid.ledger pool (with_product (is_nobody ledger.fee_to) new); answer = parts })
+
+abbrev pub burn_free : Ledger → List ℕ → PairRecord → Holder → ℕ → Outcome BurnReceipt
+burn_free ledger pool pair to fee = burn_parts ledger pool pair to fee (parts_of ledger pool (supply ledger pool + fee) fee)
+
+unfoldable pub burn : Ledger → List ℕ → Holder → Outcome BurnReceipt
+burn ledger pool to = do
+  pair ← free_pair ledger pool
+  burn_free ledger pool pair to (fee_due ledger pool pair)
+
+-- against the squared supply, counted after the protocol's fee, the product of the reserves did not fall
+abbrev pub PerShareKept : Ledger → Ledger → List ℕ → (fee : ℕ) → Type 0
+PerShareKept old new pool fee =
+    (was now : PairRecord) → pair_of old.pairs pool ≡ Some was → pair_of new.pairs pool ≡ Some now → 0 < supply old pool + fee →
+    (was.r0 * was.r1) * (supply new pool * supply new pool) ≤ (now.r0 * now.r1) * ((supply old pool + fee) * (supply old pool + fee))

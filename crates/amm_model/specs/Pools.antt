@@ -1,0 +1,44 @@
+-- What a pool is called and has, in the ledger.
+use Rattle.std.specs.Prelude.{ℕ, Bool, nat_eq, List}
+use Rattle.std.specs.Cmp.Lexicographic.{pointwise}
+use Rattle.amm_names.specs.declared.holder.Holder.TheVariants as holder
+use Rattle.amm_names.specs.declared.holder.Asset.{Asset}
+use Rattle.amm_names.specs.declared.holder.Asset.TheVariants as asset
+use Rattle.amm_model.specs.declared.pair.PairRecord.{PairRecord}
+use Rattle.amm_names.specs.Pools.{pool_token0, pool_token1}
+use Rattle.amm_model.specs.Ledger.{Ledger, balance, total}
+
+abbrev pub same_name : List ℕ → List ℕ → Bool
+same_name = pointwise nat_eq
+
+-- the two assets of a pool, and what the pool has of them
+abbrev pub asset0 : List ℕ → Asset
+asset0 pool = asset.Token (pool_token0 pool)
+
+abbrev pub asset1 : List ℕ → Asset
+asset1 pool = asset.Token (pool_token1 pool)
+
+abbrev pub held0 : Ledger → List ℕ → ℕ
+held0 ledger pool = balance ledger (asset0 pool) (holder.Pool pool)
+
+abbrev pub held1 : Ledger → List ℕ → ℕ
+held1 ledger pool = balance ledger (asset1 pool) (holder.Pool pool)
+
+-- how many shares of the pool there are
+abbrev pub supply : Ledger → List ℕ → ℕ
+supply ledger pool = total ledger (asset.Share pool)
+
+-- the most that a reserve can be
+abbrev pub reserve_limit : ℕ
+reserve_limit = 281474976710655
+
+-- the first shares are fewer by those that nobody can take out
+abbrev pub first_locked : ℕ
+first_locked = 1000
+
+-- what a loan was made of: its outputs, and the pair's record, which is locked
+pub record Terms : Type 0 where
+  pub pool : List ℕ
+  pub out0 : ℕ
+  pub out1 : ℕ
+  pub pair : PairRecord

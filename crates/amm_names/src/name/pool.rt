@@ -1,0 +1,247 @@
+//! The name of a pool: its two tokens and its fee.
+ghost use Rattle.std.specs.Prelude.{◌≡◌, IfOk, IsTrue, IsUtf8, Some, None, if◌then◌else◌, ◌==◌};
+ghost use Rattle.std.specs.List.{position, before_first, after_first};
+ghost use Rattle.amm_names.specs.Names.{is_token_name};
+ghost use Rattle.amm_names.specs.Pools.{pool_spelling, is_before, is_fee, fee_spelling, fee_of_digits, pool_between, is_pool_name, pool_token0, pool_token1, pool_fee};
+
+use super::TokenName;
+use super::text::Text;
+use crate::Memory;
+use std::alloc::Global;
+use std::cmp::Ordering;
+use std::hash::{Hash, Hasher};
+use std::marker::Model;
+
+/// The name of a pool of two tokens, the lower one first, at a fee of 1, 3 or 10 thousandths.
+#[derive(Clone, Copy, Drop)]
+pub struct PoolName {
+    token0: TokenName,
+    token1: TokenName,
+    fee: u8,
+    text: Text,
+}
+
+impl Model for PoolName {
+    ghost use Rattle.std.specs.Prelude.{◌≡◌, List, ℕ};
+    ghost use Rattle.amm_names.specs.Pools.{IsPool, pool_spelling, pool_token0, pool_token1, pool_fee};
+    ghost use Rattle.amm_names.specs.Spelling.{parts_fit};
+
+    ghost Value = { List ℕ };
+
+    ghost view = { λ name. name.text };
+
+    ghost invariant = { λ name. IsPool name.token0 name.token1 name.fee × (name.text ≡ pool_spelling name.token0 name.token1 name.fee) };
+
+    ghost inverse = { λ bytes. record { token0 = pool_token0 bytes; token1 = pool_token1 bytes; fee = pool_fee bytes; text = bytes } };
+
+    ghost inverse_ok = { λ name spelled. parts_fit name.token0 name.token1 name.fee name.text spelled.0 spelled.1 (λ token0 token1 fee. record { token0 = token0; token1 = token1; fee = fee; text = name.text }) };
+}
+
+fn place(bytes: &[u8], stop: u8) -> Option<usize>
+    ensures { result ≡ position (λ b. b == stop) bytes.now }
+{
+    bytes.iter().position(|b| *b == stop)
+}
+
+fn before(bytes: &[u8], stop: u8) -> &[u8]
+    ensures { result.now ≡ before_first (λ b. b == stop) bytes.now }
+{
+    match place(bytes, stop) {
+        Some(at) => &bytes[..at],
+        None => bytes,
+    }
+}
+
+fn after(bytes: &[u8], stop: u8) -> &[u8]
+    ensures { result.now ≡ after_first (λ b. b == stop) bytes.now }
+{
+    match place(bytes, stop) {
+        Some(at) => &bytes[at + 1..],
+        None => &[],
+    }
+}
+
+fn fee_of_digits(digits: &[u8]) -> u8
+    ensures value { result ≡ fee_of_digits digits.now }
+    ensures fee { IsTrue (is_fee result) }
+{
+    match digits {
+        b"1" => 1,
+        b"10" => 10,
+        _ => 3,
+    }
+}
+
+fn fee_text(fee: u8) -> &'static [u8]
+    requires { IsTrue (is_fee fee) }
+    ensures { result.now ≡ fee_spelling fee }
+{
+    match fee {
+        1 => b":1",
+        10 => b":10",
+        _ => b"",
+    }
+}
+
+/// The name of the pool of these tokens, the first being the lower one.
+fn spell(token0: TokenName, token1: TokenName, fee: u8) -> PoolName
+    requires ascending { IsTrue (is_before token0 token1) }
+    requires fee { IsTrue (is_fee fee) }
+    ensures { result ≡ pool_spelling token0 token1 fee }
+{
+    PoolName {
+        token0,
+        token1,
+        fee,
+        text: Text::new(token0.as_bytes())
+            .with(b"/")
+            .with(token1.as_bytes())
+            .with(fee_text(fee)),
+    }
+}
+
+impl PoolName {
+    /// Reads a name, if the bytes spell one.
+    #[tactic(auto, unfolding(crate::specs::Pools::is_pool_name, crate::specs::Pools::pool_token0, crate::specs::Pools::pool_token1, crate::specs::Pools::pool_fee))]
+    pub fn read(alloc: Global, bytes: &[u8]) -> Result<Option<PoolName>, Memory>
+        ensures { IfOk result (λ name. name ≡ (if is_pool_name bytes.now then Some bytes.now else None)) }
+    {
+        let tail = after(bytes, b'/');
+        let Some(token0) = TokenName::of(before(bytes, b'/')) else {
+            return Ok(None);
+        };
+        let Some(token1) = TokenName::of(before(tail, b':')) else {
+            return Ok(None);
+        };
+        if token0 >= token1 {
+            return Ok(None);
+        }
+        let name = spell(token0, token1, fee_of_digits(after(tail, b':')));
+        if name.as_bytes() != bytes {
+            return Ok(None);
+        }
+        Ok(Some(name))
+    }
+
+    /// The name of the pool of two tokens. One token has none with itself.
+    #[tactic(auto, unfolding(crate::specs::Pools::pool_between))]
+    pub fn of(
+        alloc: Global,
+        a: &TokenName,
+        b: &TokenName,
+        fee: u8,
+    ) -> Result<Option<PoolName>, Memory>
+        requires { IsTrue (is_fee fee) }
+        ensures { IfOk result (λ name. name ≡ pool_between a.now b.now fee) }
+    {
+        Ok(match a.cmp(b) {
+            Ordering::Less => Some(spell(*a, *b, fee)),
+            Ordering::Equal => None,
+            Ordering::Greater => Some(spell(*b, *a, fee)),
+        })
+    }
+
+    pub fn token0(&self) -> &TokenName
+        ensures value { result.now ≡ pool_token0 self.now }
+        ensures token { IsTrue (is_token_name result.now) }
+    {
+        &self.token0
+    }
+
+    pub fn token1(&self) -> &TokenName
+        ensures value { result.now ≡ pool_token1 self.now }
+        ensures token { IsTrue (is_token_name result.now) }
+    {
+        &self.token1
+    }
+
+    pub fn fee(&self) -> u8
+        ensures value { result ≡ pool_fee self.now }
+        ensures fee { IsTrue (is_fee result) }
+    {
+        self.fee
+    }
+
+    pub fn as_bytes(&self) -> &[u8]
+        ensures value { result.now ≡ self.now }
+        ensures pool { IsTrue (is_pool_name self.now) }
+        ensures utf8 { IsUtf8 result.now }
+    {
+        self.text.as_bytes()
+    }
+
+    pub fn copy(&self, alloc: Global) -> Result<PoolName, Memory>
+        ensures { IfOk result (λ name. name ≡ self.now) }
+    {
+        Ok(*self)
+    }
+}
+
+impl PartialEq for PoolName {
+    ghost use Rattle.std.specs.Prelude.{nat_eq};
+    ghost use Rattle.std.specs.Cmp.{partial_equiv_from_equiv};
+    ghost use Rattle.std.specs.Cmp.Lexicographic.{pointwise, nat_list_eq_equiv};
+
+    ghost eq = { pointwise nat_eq };
+
+    ghost laws = { partial_equiv_from_equiv nat_list_eq_equiv };
+
+    fn eq(&self, other: &PoolName) -> bool {
+        self.text == other.text
+    }
+}
+
+impl Eq for PoolName {
+    ghost use Rattle.std.specs.Cmp.Lexicographic.{nat_list_eq_equiv};
+
+    ghost laws = { nat_list_eq_equiv };
+}
+
+impl Hash for PoolName {
+    ghost use Rattle.std.proofs.Common.{rules};
+    ghost use Rattle.std.specs.Prelude.{[], ◌∷◌};
+    ghost use Rattle.std.specs.Cmp.Rules.{hashing};
+
+    ghost hash_input = { λ bytes. bytes ∷ [] };
+
+    ghost respects_eq = { Prim.search (hashing, rules) };
+
+    fn hash<H: Hasher>(&self, state: &mut H) {
+        self.text.hash(state);
+    }
+}
+
+impl Ord for PoolName {
+    ghost use Rattle.std.proofs.Common.{rules};
+    ghost use Rattle.std.specs.Cmp.Rules.{comparing};
+    ghost use Rattle.std.specs.Cmp.Lexicographic.{slice_cmp, nat_list_cmp_total};
+    ghost use Rattle.std.specs.Ordering.{nat_cmp};
+
+    ghost cmp = { slice_cmp nat_cmp };
+
+    ghost total = { nat_list_cmp_total };
+
+    ghost matches_partial_cmp = { Prim.search (comparing, rules) };
+
+    ghost matches_eq = { Prim.search (comparing, rules) };
+
+    fn cmp(&self, other: &PoolName) -> Ordering {
+        self.text.cmp(&other.text)
+    }
+}
+
+impl PartialOrd for PoolName {
+    ghost use Rattle.std.proofs.Common.{rules};
+    ghost use Rattle.std.specs.Cmp.{partial_order_from_own_ties};
+    ghost use Rattle.std.specs.Cmp.Rules.{comparing};
+    ghost use Rattle.std.specs.Cmp.Lexicographic.{slice_cmp};
+    ghost use Rattle.std.specs.Ordering.{nat_cmp, as_partial_cmp};
+
+    ghost partial_cmp = { as_partial_cmp (slice_cmp nat_cmp) };
+
+    ghost laws = { partial_order_from_own_ties (Prim.search (comparing, rules)) (Prim.search (comparing, rules)) };
+
+    fn partial_cmp(&self, other: &PoolName) -> Option<Ordering> {
+        Some(self.cmp(other))
+    }
+}
