@@ -6,9 +6,9 @@ use Rattle.std.specs.Cmp.{eq_by_cmp_equiv, Equal-is}
 use Rattle.std.specs.FinMap as fin
 use Rattle.amm_names.specs.declared.holder.Holder.{Holder}
 use Rattle.amm_names.specs.declared.holder.Asset.{Asset}
-use Rattle.amm_model.specs.Order.{holder_cmp, asset_cmp, same_holder, same_asset}
+use Rattle.amm_names.specs.Order.{holder_cmp, asset_cmp, same_holder, same_asset}
 use Rattle.amm_model.specs.Ledger.{Holdings, HoldingsByAsset, Ledger, amount, set_amount, sum_held, holdings_of, set_holdings, balance, total, set_balance, total_limit, done, taken, transfer, issue, retire}
-use Rattle.amm_model.proofs.OrderLemmas.{holder_total, holder_antisymmetric, asset_total, asset_antisymmetric}
+use Rattle.amm_names.proofs.OrderLemmas.{holder_total, holder_antisymmetric, asset_total, asset_antisymmetric}
 use Rattle.amm_model.proofs.FinSum.{in_all, sum-insert, sum-remove, value_at_most_sum}
 
 -- at each holder but the changed one the amount stays

@@ -13,7 +13,7 @@ use Rattle.amm_model.specs.declared.observation.Observation.{Observation}
 use Rattle.amm_model.specs.declared.route.Quote.{Quote}
 use Rattle.amm_model.specs.declared.fault.Refusal.{Refusal}
 use Rattle.amm_model.specs.declared.fault.Refusal.TheVariants.{Funds, TotalLimit, TokenLimit, PairLimit}
-use Rattle.amm_model.specs.Order.{holder_cmp, asset_cmp, same_holder}
+use Rattle.amm_names.specs.Order.{holder_cmp, asset_cmp, same_holder}
 
 -- what each holder has of one asset, where it has some
 abbrev pub Holdings : Type 0

@@ -1,6 +1,5 @@
 pub mod Refusals
 pub mod Outcome
-pub mod Order
 pub mod Routing
 pub mod Ledger
 pub mod Codes

@@ -8,8 +8,7 @@ use Rattle.amm_names.specs.declared.holder.Holder.{Holder}
 use Rattle.amm_names.specs.declared.holder.Asset.{Asset}
 use Rattle.amm_names.specs.declared.holder.Holder.TheVariants as holder
 use Rattle.amm_names.specs.declared.holder.Asset.TheVariants as asset
-use Rattle.amm_model.specs.Order.{holder_cmp, asset_cmp, same_holder, same_asset}
-use Rattle.amm_names.specs.contracts.holder.HolderClone.TheImpl as holder_copies
+use Rattle.amm_names.specs.Order.{holder_cmp, asset_cmp, same_holder, same_asset}
 use Rattle.amm_names.specs.contracts.holder.HolderPartialEq.TheImpl as holder_is
 use Rattle.amm_names.specs.contracts.holder.AssetPartialEq.TheImpl as asset_is
 use Rattle.amm_names.specs.contracts.holder.HolderOrd.TheImpl.Laws as holder_laws
@@ -36,10 +35,6 @@ asset_antisymmetric (asset.Token x) (asset.Token y) e = ap asset.Token (same_nam
 asset_antisymmetric (asset.Share x) (asset.Share y) e = ap asset.Share (same_name x y e)
 asset_antisymmetric (asset.Token x) (asset.Share y) e = cc
 asset_antisymmetric (asset.Share x) (asset.Token y) e = cc
-
--- a clone is the holder itself
-pub holder_clone : (x y : Holder) → (holder_copies.ghosts).is_clone x y → y ≡ x
-holder_clone x y h = h
 
 -- `==` on holders answers as their order does
 pub holder_eq : (x y : Holder) → (holder_is.ghosts).eq x y ≡ same_holder x y
