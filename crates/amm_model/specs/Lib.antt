@@ -11,3 +11,5 @@ pub mod Operations
 pub mod Sound
 pub mod Lines
 pub mod CommandView
+pub mod Factory
+pub mod Meaning

@@ -1,0 +1,73 @@
+-- What each command and step does to the ledger, and what it answers.
+use Rattle.std.specs.Prelude.{ℕ, not, List, Result, Ok, Err}
+use Rattle.std.specs.Option.{is_none}
+use Rattle.amm_names.specs.declared.holder.Holder.{Holder}
+use Rattle.amm_names.specs.declared.holder.Holder.TheVariants as holders
+use Rattle.amm_names.specs.declared.holder.Asset.{Asset}
+use Rattle.amm_names.specs.declared.holder.Asset.TheVariants as assets
+use Rattle.amm_model.specs.declared.fault.Refusal.{Refusal}
+use Rattle.amm_model.specs.declared.fault.Refusal.TheVariants as code
+use Rattle.amm_model.specs.declared.reply.Answer.{Answer}
+use Rattle.amm_model.specs.declared.reply.Answer.TheVariants as answers
+use Rattle.amm_model.specs.Outcome.{◌>>=◌, refuse_if}
+use Rattle.amm_model.specs.Ledger.{Ledger, Outcome, balance, total, list, issue, retire, transfer, set_time, is_listed, pair_of}
+use Rattle.amm_model.specs.CommandView as view
+use Rattle.amm_model.specs.CommandView.{CommandView, Move}
+
+-- the ledger as it is, with an answer
+abbrev pub told : Ledger → Answer → Outcome Answer
+told ledger answer = Ok (record { ledger = ledger; answer = answer })
+
+-- the ledger that was made, with an answer in place of its own
+abbrev pub answering : {A : Type 0} → Answer → Outcome A → Outcome Answer
+answering answer outcome = do
+  made ← outcome
+  Ok (record { ledger = made.ledger; answer = answer })
+
+-- an asset can be spoken of where it is a listed token, or the shares of a pair that is there
+unfoldable pub known : Ledger → Asset → Result (Unit {0}) Refusal
+known ledger (assets.Token token) = refuse_if (not (is_listed ledger.tokens token)) code.UnknownToken
+known ledger (assets.Share pool) = refuse_if (is_none (pair_of ledger.pairs pool)) code.NoPair
+
+-- ---- steps
+
+-- units of an asset from the actor to a holder (core, UniswapV2ERC20.transfer)
+unfoldable pub send : Ledger → (actor : List ℕ) → Asset → Holder → ℕ → Outcome Answer
+send ledger actor asset to n = do
+  _ ← known ledger asset
+  answering answers.Transfer (transfer ledger asset (holders.User actor) to n)
+
+-- what a step of the actor does; a kind that is not answered yet is refused
+unfoldable pub meaning : Ledger → (actor : List ℕ) → Move → Outcome Answer
+meaning ledger actor (view.transfer asset to n) = send ledger actor asset to n
+meaning ledger actor _ = Err code.BadCommand
+
+-- ---- commands that are no steps
+
+-- units of a token into the ledger, which lists the token
+unfoldable pub deposit : Ledger → (user token : List ℕ) → ℕ → Outcome Answer
+deposit ledger user token n = do
+  listed ← list ledger token
+  issued ← issue listed.ledger (assets.Token token) (holders.User user) n
+  told issued.ledger (answers.Deposit (balance issued.ledger (assets.Token token) (holders.User user)) (total issued.ledger (assets.Token token)))
+
+-- units of a token out of the ledger
+unfoldable pub withdraw : Ledger → (user token : List ℕ) → ℕ → Outcome Answer
+withdraw ledger user token n = do
+  _ ← known ledger (assets.Token token)
+  retired ← retire ledger (assets.Token token) (holders.User user) n
+  told retired.ledger (answers.Withdraw (balance retired.ledger (assets.Token token) (holders.User user)) (total retired.ledger (assets.Token token)))
+
+-- what a command does; a kind that is not answered yet is refused
+unfoldable pub outcome_of : Ledger → CommandView → Outcome Answer
+outcome_of ledger (view.deposit user token n) = deposit ledger user token n
+outcome_of ledger (view.withdraw user token n) = withdraw ledger user token n
+outcome_of ledger (view.time n) = answering answers.Time (set_time ledger n)
+outcome_of ledger (view.balance asset holder) = do
+  _ ← known ledger asset
+  told ledger (answers.Balance (balance ledger asset holder))
+outcome_of ledger (view.total asset) = do
+  _ ← known ledger asset
+  told ledger (answers.Total (total ledger asset))
+outcome_of ledger (view.act actor step) = meaning ledger actor step
+outcome_of ledger _ = Err code.BadCommand
