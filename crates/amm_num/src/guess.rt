@@ -39,6 +39,9 @@ pub fn guess_root(n: u128) -> u64 {
 
 // Near the root of a number of 64 bits.
 fn guess_small(n: u64) -> u64 {
+    if n == 0 {
+        return 0;
+    }
     let shift = n.leading_zeros() / 2 % 32;
     guess_half(n << (2 * shift)) >> shift
 }
