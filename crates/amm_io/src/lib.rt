@@ -11,6 +11,8 @@ mod source;
 mod standard;
 mod stream;
 mod sure;
+#[cfg(test)]
+mod tests;
 
 pub use memory::{MemSink, MemSource};
 pub use sink::{IoFail, Sink, WriteEnd, write_all};
