@@ -1,21 +1,31 @@
 //! The plain types of the exchange, and the definitions that its contracts cite.
 #![tactic(auto)]
 
+mod amounts;
 mod byte_line;
+mod command;
 mod fault;
 mod line;
 mod list;
 mod observation;
 mod pair;
+mod path;
 mod problem;
+mod reply;
 mod route;
 
 pub use amm_names::{Asset, Holder, Memory, PoolName, TokenName, UserName};
+pub use amounts::AmountList;
 pub use byte_line::ByteLine;
+pub use command::{AddWant, Command, RemoveWant, Step};
 pub use fault::{Fault, Refusal};
 pub use line::Line;
 pub use list::LegList;
 pub use observation::Observation;
-pub use pair::{BurnReceipt, MintReceipt, PairRecord, SkimReceipt, SwapReceipt};
+pub use pair::{
+    AddReceipt, BurnReceipt, MintReceipt, PairRecord, RemoveReceipt, SkimReceipt, SwapReceipt,
+};
+pub use path::{FeeList, RoutePath, TokenList};
 pub use problem::{Prices, Problem, ProblemPool};
+pub use reply::{Answer, Reply};
 pub use route::{Leg, Quote, Route};
