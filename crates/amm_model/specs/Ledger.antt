@@ -12,7 +12,7 @@ use Rattle.amm_model.specs.declared.pair.PairRecord.{PairRecord}
 use Rattle.amm_model.specs.declared.observation.Observation.{Observation}
 use Rattle.amm_model.specs.declared.route.Quote.{Quote}
 use Rattle.amm_model.specs.declared.fault.Refusal.{Refusal}
-use Rattle.amm_model.specs.declared.fault.Refusal.TheVariants.{Funds, TotalLimit, TokenLimit, PairLimit}
+use Rattle.amm_model.specs.declared.fault.Refusal.TheVariants.{Funds, TotalLimit, TokenLimit, PairLimit, TimeBack}
 use Rattle.amm_names.specs.Order.{holder_cmp, asset_cmp, same_holder}
 
 -- what each holder has of one asset, where it has some
@@ -155,3 +155,25 @@ abbrev pub add_pair : Ledger → List ℕ → Outcome (Unit {0})
 add_pair ledger pool =
     if nat_le pair_limit (length ledger.pairs) then Err PairLimit
     else done (record ledger { pairs = ledger.pairs ++ (pool, zero_pair) ∷ [] })
+
+-- the ledger with another receiver of the protocol's fee
+abbrev pub with_fee_to : Ledger → Holder → Ledger
+with_fee_to ledger to = record ledger { fee_to = to }
+
+-- the ledger with another user who may set that receiver
+abbrev pub with_setter : Ledger → List ℕ → Ledger
+with_setter ledger to = record ledger { setter = to }
+
+-- time does not go back
+abbrev pub set_time : Ledger → ℕ → Outcome (Unit {0})
+set_time ledger time =
+    if nat_lt time ledger.time then Err TimeBack
+    else done (record ledger { time = time })
+
+-- the most quotes that are kept
+abbrev pub quote_limit : ℕ
+quote_limit = 256
+
+-- the most observations that are kept
+abbrev pub observation_limit : ℕ
+observation_limit = 4096

@@ -8,7 +8,7 @@ use Rattle.amm_names.specs.declared.holder.Asset.TheVariants as asset
 use Rattle.amm_model.specs.declared.pair.PairRecord.{PairRecord}
 use Rattle.amm_names.specs.Pools.{pool_token0, pool_token1}
 use Rattle.amm_model.specs.Formulas.{IsBacked}
-use Rattle.amm_model.specs.Ledger.{Ledger, balance, total, total_limit, token_limit, pair_limit, is_listed, pair_of}
+use Rattle.amm_model.specs.Ledger.{Ledger, balance, total, total_limit, token_limit, pair_limit, quote_limit, observation_limit, is_listed, pair_of}
 use Rattle.amm_model.specs.Pools.{Terms, held0, held1, supply, reserve_limit, first_locked, same_name}
 
 -- the numbers of the record are within their widths
@@ -44,6 +44,13 @@ pub record IsSound (ledger : Ledger) : Type 0 where
   pub tokens : length ledger.tokens ≤ token_limit
   pub count : length ledger.pairs ≤ pair_limit
   pub time : ledger.time ≤ total_limit
+  pub quotes : length ledger.quotes ≤ quote_limit
+  pub observations : length ledger.observations ≤ observation_limit
+
+-- sound, and no pair is locked
+pub record IsAtRest (ledger : Ledger) : Type 0 where
+  pub sound : IsSound ledger
+  pub unlocked : (pool : List ℕ) (pair : PairRecord) → pair_of ledger.pairs pool ≡ Some pair → pair.locked ≡ false
 
 -- the pair of the loan is locked, and its record is the one that the loan was made with
 pub record IsOpen (ledger : Ledger) (loan : Terms) : Type 0 where
