@@ -10,3 +10,4 @@ pub mod Pools
 pub mod Operations
 pub mod Sound
 pub mod Lines
+pub mod Laws
