@@ -11,3 +11,6 @@ pub mod Operations
 pub mod Sound
 pub mod Lines
 pub mod CommandView
+pub mod Json
+pub mod Forms
+pub mod Reading
