@@ -14,3 +14,6 @@ pub mod CommandView
 pub mod Factory
 pub mod Meaning
 pub mod Laws
+pub mod Json
+pub mod Forms
+pub mod Reading
