@@ -10,3 +10,5 @@ pub mod Pools
 pub mod Operations
 pub mod Sound
 pub mod Lines
+pub mod Bound
+pub mod Legs
