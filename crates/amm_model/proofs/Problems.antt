@@ -13,12 +13,15 @@ use Rattle.std.proofs.lemmas.List.Kept.{AllPairs-cons, Contains-dedup, Contains-
 use Rattle.std.proofs.lemmas.List.Sorted.{Contains-permutation, IsPermutation-sym}
 use Rattle.std.proofs.lemmas.List.Sums.{fails_before_first}
 use Rattle.std.proofs.lemmas.Bool.{cases_lt}
+use Rattle.std.proofs.lemmas.List.{get_or-map}
+use Rattle.std.proofs.Math.ListN.{length-map}
 use Rattle.std.proofs.lemmas.Slice.Eq.{bytes_eq-Decides}
+use Rattle.amm_model.specs.declared.problem.TokenPlaces.{TokenPlaces}
 use Rattle.amm_names.specs.Pools.{is_before}
 use Rattle.amm_model.specs.declared.problem.ProblemPool.{ProblemPool}
 use Rattle.amm_names.specs.Pools.{is_pool_name, fee_of_digits, pool_fee}
 use Rattle.amm_model.specs.Swap.{IsFee}
-use Rattle.amm_model.specs.Routing.{Name, ProblemView, IsProblem, IsBefore, fee_of, token0_of, token1_of, tokens_of_pools, tokens_named, token_place}
+use Rattle.amm_model.specs.Routing.{Name, ProblemView, IsProblem, IsBefore, fee_of, token0_of, token1_of, tokens_of_pools, tokens_named, token_place, places_of, no_pool}
 
 pub before-less : (a b : Name) → IsBefore a b → slice_cmp nat_cmp a b ≡ Less
 before-less a b before = pick (slice_cmp nat_cmp a b) before
@@ -137,6 +140,14 @@ tokens_there problem sound k d below =
 
     there : (x : Name) → Contains (tokens_of_pools problem.pools) x → token_place problem.tokens x < length problem.tokens
     there x has = place-lt_from_Contains problem.tokens x ((sound.tokens x).1 (later x has))
+
+-- so the places of the pools' tokens are within the tokens
+pub places_there : (problem : ProblemView) → IsProblem problem →
+    All (λ (at : TokenPlaces). (at.zero < length problem.tokens) × (at.one < length problem.tokens)) (map (places_of problem.tokens) problem.pools)
+places_there problem sound k d below =
+    let inside : k < length problem.pools = rw length-map at below in
+    let is = get_or-map (places_of problem.tokens) problem.pools k no_pool d inside in
+    rw is (tokens_there problem sound k no_pool inside)
 
 -- every fee that a name spells is one of the three
 digits_fee : (digits : List ℕ) → IsFee (fee_of_digits digits)

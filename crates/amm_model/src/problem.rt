@@ -1,5 +1,6 @@
 //! The routing problem: how much of one token to bring to another, and over which pools.
-ghost use Rattle.std.specs.Prelude.{◌≡◌, IfOk, MatchOption, map};
+ghost use Rattle.std.specs.Prelude.{◌≡◌, ◌<◌, All, IfOk, MatchOption, length, map};
+ghost use Rattle.amm_model.specs.declared.problem.TokenPlaces as places_view;
 ghost use Rattle.amm_model.specs.Routing.{AreParts, IsProblem, IsProblemOf, places_of, token_place};
 
 use crate::ProblemPoolList;
@@ -133,13 +134,15 @@ impl Problem {
     pub fn ends(&self) -> (usize, usize)
         ensures source { result.0 ≡ token_place self.now.tokens self.now.s }
         ensures target { result.1 ≡ token_place self.now.tokens self.now.t }
+        ensures there { (result.0 < length self.now.tokens) × (result.1 < length self.now.tokens) }
     {
         (self.s_place, self.t_place)
     }
 
     /// The places of the pools' tokens among the tokens, pool by pool.
     pub fn places(&self) -> &[TokenPlaces]
-        ensures { result.now ≡ map (places_of self.now.tokens) self.now.pools }
+        ensures list { result.now ≡ map (places_of self.now.tokens) self.now.pools }
+        ensures there { All (λ (at : places_view.TokenPlaces). (at.zero < length self.now.tokens) × (at.one < length self.now.tokens)) result.now }
     {
         &self.places
     }
