@@ -17,3 +17,5 @@ pub mod Laws
 pub mod Json
 pub mod Forms
 pub mod Reading
+pub mod Bound
+pub mod Legs
