@@ -1,0 +1,111 @@
+-- A journal after one more change, and after one is undone.
+use Rattle.std.proofs.Common.{◌≡◌, ℕ, ◌+◌, ◌-◌, ◌≤◌, Bool, true, false, cond, Some, IsTrue, List, [], ◌∷◌, ◌++◌, take, length, ◌||◌, refl, sym, ap, subst, ◌∙◌, arith}
+use Rattle.std.specs.Option.{unwrap_or}
+use Rattle.std.specs.Cmp.{eq_by_cmp_equiv, Equal-is}
+use Rattle.std.specs.FinMap as map
+use Rattle.std.specs.FinSet as set
+use Rattle.amm_names.specs.declared.holder.Holder.{Holder}
+use Rattle.amm_names.specs.declared.holder.Asset.{Asset}
+use Rattle.amm_names.specs.Order.{asset_cmp, same_asset, same_holder}
+use Rattle.amm_model.specs.Ledger.{Ledger, HoldingsByAsset, Pairs, pair_of, set_pair, balance, total, total_limit, set_balance, amount, set_amount, holdings_of}
+use Rattle.amm_names.proofs.OrderLemmas.{asset_total, asset_antisymmetric, holder_total}
+use Rattle.amm_model.proofs.LedgerLemmas.{total-set_balance, balance_within_total, balance-set_here}
+use Rattle.amm_state.specs.declared.journal.Undo.{Undo}
+use Rattle.amm_state.specs.declared.journal.Undo.TheVariants.{Balance, Token, NewPair, Pair, FeeTo, Setter, Time}
+use Rattle.amm_state.specs.Rows.{Holders}
+use Rattle.amm_state.specs.Book.{Rows, BookView, holders_at, has_row, with_balance, with_ledger, with_pairs, IsUndone}
+use Rattle.amm_model.specs.declared.pair.PairRecord.{PairRecord}
+use Rattle.amm_state.proofs.BookLemmas.{set_pair-back}
+use Rattle.amm_state.specs.Journal.{undo, undo_all, StaysWithin, HasRows, IsRevertible, IsStart}
+
+abbrev pub add_row : Rows → Asset → Holder → Rows
+add_row rows a h = map.insert rows a (set.insert (holders_at rows a) h)
+
+holders_at-insert : (rows : Rows) (a : Asset) (hs : Holders) (q : Asset) → holders_at (map.insert rows a hs) q ≡ cond (same_asset q a) hs (holders_at rows q)
+unfolding holders_at
+holders_at-insert rows a hs q = rw (map.get-insert asset_total rows a hs q) (at (same_asset q a))
+  where
+    at : (b : Bool) → unwrap_or (cond b (Some hs) (map.get rows q)) set.empty ≡ cond b hs (unwrap_or (map.get rows q) set.empty)
+    at true = refl
+    at false = refl
+
+has_row-add_row : (rows : Rows) (a : Asset) (h : Holder) (q : Asset) (p : Holder) → has_row (add_row rows a h) q p ≡ cond (same_asset q a) (same_holder p h || has_row rows a p) (has_row rows q p)
+has_row-add_row rows a h q p = ap (λ (hs : Holders). set.contains hs p) (holders_at-insert rows a _ q) ∙ at (same_asset q a)
+  where
+    at : (b : Bool) → set.contains (cond b (set.insert (holders_at rows a) h) (holders_at rows q)) p ≡ cond b (same_holder p h || has_row rows a p) (has_row rows q p)
+    at true = set.contains-insert holder_total (holders_at rows a) h p
+    at false = refl
+
+pub has_row-added : (rows : Rows) (a : Asset) (h : Holder) → has_row (add_row rows a h) a h ≡ true
+has_row-added rows a h = has_row-add_row rows a h a h ∙ ap (λ b. cond b (same_holder h h || has_row rows a h) (has_row rows a h)) ((eq_by_cmp_equiv asset_total).refl a)
+    ∙ ap (λ b. b || has_row rows a h) ((eq_by_cmp_equiv holder_total).refl h)
+
+-- a row is never lost
+pub has_row-kept : (rows : Rows) (a : Asset) (h : Holder) (q : Asset) (p : Holder) → has_row rows q p ≡ true → has_row (add_row rows a h) q p ≡ true
+has_row-kept rows a h q p had = has_row-add_row rows a h q p ∙ at (same_asset q a) refl
+  where
+    either : (b c : Bool) → c ≡ true → (b || c) ≡ true
+    either true c e = refl
+    either false c e = e
+
+    at : (b : Bool) → same_asset q a ≡ b → cond b (same_holder p h || has_row rows a p) (has_row rows q p) ≡ true
+    at true e = either (same_holder p h) _ (ap (λ (x : Asset). has_row rows x p) (sym (asset_antisymmetric q a ((Equal-is (asset_cmp q a)).0 e))) ∙ had)
+    at false e = had
+
+pub HasRows-kept : (changes : List Undo) (rows : Rows) (a : Asset) (h : Holder) → HasRows changes rows → HasRows changes (add_row rows a h)
+HasRows-kept [] rows a h all = tt
+HasRows-kept (Balance q p n ∷ changes) rows a h all = (has_row-kept rows a h q p all.0, HasRows-kept changes rows a h all.1)
+HasRows-kept (Token ∷ changes) rows a h all = HasRows-kept changes rows a h all
+HasRows-kept (NewPair ∷ changes) rows a h all = HasRows-kept changes rows a h all
+HasRows-kept (Pair pool pair ∷ changes) rows a h all = HasRows-kept changes rows a h all
+HasRows-kept (FeeTo holder ∷ changes) rows a h all = HasRows-kept changes rows a h all
+HasRows-kept (Setter user ∷ changes) rows a h all = HasRows-kept changes rows a h all
+HasRows-kept (Time time ∷ changes) rows a h all = HasRows-kept changes rows a h all
+
+-- one more balance was changed
+pub balance_noted : (changes : List Undo) (book : BookView) (a : Asset) (h : Holder) (n : ℕ)
+    → set_balance (set_balance book.ledger a h n) a h (balance book.ledger a h) ≡ book.ledger → total book.ledger a ≤ total_limit
+    → IsRevertible changes book → IsRevertible (Balance a h (balance book.ledger a h) ∷ changes) (with_balance book a h n)
+balance_noted changes book a h n back limit r =
+    let l : Ledger = book.ledger in
+    let m : Ledger = set_balance l a h n in
+    let sums = total-set_balance l a h n in
+    let here = balance-set_here l a h n in
+    let whole = balance_within_total l a h in
+    record {
+      within = (omega arith, subst (StaysWithin changes) (sym back) r.within);
+      rows = (has_row-added book.rows a h, HasRows-kept changes book.rows a h r.rows);
+      start = subst (λ (x : Ledger). IsStart (undo_all changes x)) (sym back) r.start;
+    }
+
+-- a balance was restored
+pub balance_restored : (changes : List Undo) (book : BookView) (a : Asset) (h : Holder) (n : ℕ) → IsRevertible (Balance a h n ∷ changes) book → IsRevertible changes (with_balance book a h n)
+balance_restored changes book a h n r = record { within = r.within.1; rows = HasRows-kept changes book.rows a h r.rows.1; start = r.start }
+
+-- one more balance was changed, as a transaction notes it
+pub balance_changed : (changes noted : List Undo) (book new : BookView) (a : Asset) (h : Holder) (n before : ℕ) (change : Undo)
+    → noted ≡ change ∷ changes → change ≡ Balance a h before → before ≡ balance book.ledger a h → new ≡ with_balance book a h n
+    → IsUndone book.ledger.holdings a h n → total book.ledger a ≤ total_limit
+    → IsRevertible changes book → IsRevertible noted new
+balance_changed changes noted book new a h n before change is what was next back limit r =
+    let all : noted ≡ Balance a h (balance book.ledger a h) ∷ changes = is ∙ ap (λ (e : Undo). e ∷ changes) (what ∙ ap (Balance a h) was) in
+    rw (all, next) (balance_noted changes book a h n (ap (λ (x : HoldingsByAsset). record book.ledger { holdings = x }) back) limit r)
+
+-- one more pair was changed, as a transaction notes it
+module _ (changes noted : List Undo) (book new : BookView) (pool : List ℕ) (old pair : PairRecord) (change : Undo) (is : noted ≡ change ∷ changes) (what : change ≡ Pair pool old)
+    (was : pair_of book.ledger.pairs pool ≡ Some old) (next : new ≡ with_ledger book (with_pairs book.ledger (set_pair book.ledger.pairs pool pair))) where
+  back : undo (Pair pool old) (record book.ledger { pairs = set_pair book.ledger.pairs pool pair }) ≡ book.ledger
+  back = ap (λ (k : Pairs). record book.ledger { pairs = k }) (set_pair-back book.ledger.pairs pool old pair was)
+
+  all : noted ≡ Pair pool old ∷ changes
+  all = is ∙ ap (λ (e : Undo). e ∷ changes) what
+
+  pub pair_leads_back : undo_all noted new.ledger ≡ undo_all changes book.ledger
+  pair_leads_back = rw (all, next) (ap (undo_all changes) back)
+
+  pub pair_changed : IsRevertible changes book → IsRevertible noted new
+  pair_changed r = rw (all, next) record {
+    within = subst (StaysWithin changes) (sym back) r.within;
+    rows = r.rows;
+    start = subst (λ (x : Ledger). IsStart (undo_all changes x)) (sym back) r.start;
+  }

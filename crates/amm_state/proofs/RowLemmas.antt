@@ -1,0 +1,88 @@
+-- What a table's rows give at a holder.
+use Rattle.std.proofs.Common.{◌≡◌, ℕ, ◌+◌, ◌-◌, ◌≤◌, ◌==◌, Bool, true, false, cond, List, [], ◌∷◌, Option, None, Some, is_some, ◌||◌, refl, sym, ap, ◌∙◌, arith}
+use Rattle.std.specs.Option.{unwrap_or}
+use Rattle.std.specs.Map.{lookup}
+use Rattle.std.specs.Cmp.{eq_by_cmp_equiv}
+use Rattle.amm_names.specs.declared.holder.Holder.{Holder}
+use Rattle.amm_names.specs.contracts.holder.HolderPartialEq.TheImpl as holder_is
+use Rattle.amm_names.specs.Order.{same_holder}
+use Rattle.amm_model.specs.Ledger.{Holdings, amount, set_amount, sum_held}
+use Rattle.amm_names.proofs.OrderLemmas.{holder_eq, holder_total}
+use Rattle.amm_model.proofs.LedgerLemmas.{amount-set_amount, amount-empty, IsTidy, IsTidy-empty, IsTidy-set_amount, same_held, amount_within_sum, sum_held-set_amount}
+use Rattle.std.specs.FinSet as set
+use Rattle.amm_names.specs.Order.{holder_cmp}
+use Rattle.amm_names.proofs.OrderLemmas.{holder_antisymmetric}
+use Rattle.amm_state.specs.Rows.{AssetTable, held_of, holders_of, table_of, with_row}
+
+abbrev pub eq : Holder → Holder → Bool
+eq = (holder_is.ghosts).eq
+
+-- the amount of a holder, and 0 where it has no row
+abbrev pub row_amount : List (Holder × ℕ) → Holder → ℕ
+row_amount rows q = unwrap_or (lookup (eq q) rows) 0
+
+pub amount-held_of : (rows : List (Holder × ℕ)) (q : Holder) → amount (held_of rows) q ≡ row_amount rows q
+unfolding held_of
+amount-held_of [] q = amount-empty q
+amount-held_of (e ∷ rows) q =
+    amount-set_amount (held_of rows) e.0 e.1 q ∙ ap (cond (same_holder q e.0) e.1) (amount-held_of rows q)
+    ∙ ap (λ b. cond b e.1 (row_amount rows q)) (sym (holder_eq q e.0)) ∙ first (eq q e.0) e.1 (lookup (eq q) rows)
+  where
+    first : (b : Bool) (n : ℕ) (o : Option ℕ) → cond b n (unwrap_or o 0) ≡ unwrap_or (cond b (Some n) o) 0
+    first true n o = refl
+    first false n o = refl
+
+pub IsTidy-held_of : (rows : List (Holder × ℕ)) → IsTidy (held_of rows)
+unfolding held_of
+IsTidy-held_of [] = IsTidy-empty
+IsTidy-held_of (e ∷ rows) = IsTidy-set_amount (held_of rows) e.0 e.1 (IsTidy-held_of rows)
+
+-- rows that differ at one holder alone
+pub held_of-updated : (old new : List (Holder × ℕ)) (h : Holder) (n : ℕ)
+    → ((q : Holder) → lookup (eq q) new ≡ cond (eq h q) (Some n) (lookup (eq q) old)) → held_of new ≡ set_amount (held_of old) h n
+held_of-updated old new h n updates =
+    same_held _ _ (IsTidy-held_of new) (IsTidy-set_amount _ h n (IsTidy-held_of old)) (λ q.
+    amount-held_of new q ∙ ap (λ o. unwrap_or o 0) (updates q) ∙ out (eq h q) n (lookup (eq q) old)
+    ∙ ap (λ b. cond b n (row_amount old q)) (holder_eq h q ∙ (eq_by_cmp_equiv holder_total).symm h q)
+    ∙ ap (cond (same_holder q h) n) (sym (amount-held_of old q)) ∙ sym (amount-set_amount (held_of old) h n q))
+  where
+    out : (b : Bool) (n : ℕ) (o : Option ℕ) → unwrap_or (cond b (Some n) o) 0 ≡ cond b n (unwrap_or o 0)
+    out true n o = refl
+    out false n o = refl
+
+pub contains-holders_of : (rows : List (Holder × ℕ)) (q : Holder) → set.contains (holders_of rows) q ≡ is_some (lookup (eq q) rows)
+unfolding holders_of
+contains-holders_of [] q = set.contains-empty holder_cmp q
+contains-holders_of (e ∷ rows) q =
+    set.contains-insert holder_total (holders_of rows) e.0 q ∙ ap (λ b. same_holder q e.0 || b) (contains-holders_of rows q)
+    ∙ ap (λ b. b || is_some (lookup (eq q) rows)) (sym (holder_eq q e.0)) ∙ first (eq q e.0) e.1 (lookup (eq q) rows)
+  where
+    first : (b : Bool) (n : ℕ) (o : Option ℕ) → (b || is_some o) ≡ is_some (cond b (Some n) o)
+    first true n o = refl
+    first false n o = refl
+
+pub holders_of-updated : (old new : List (Holder × ℕ)) (h : Holder) (n : ℕ)
+    → ((q : Holder) → lookup (eq q) new ≡ cond (eq h q) (Some n) (lookup (eq q) old)) → holders_of new ≡ set.insert (holders_of old) h
+holders_of-updated old new h n updates =
+    set.same_set holder_total holder_antisymmetric _ _ (λ q.
+    contains-holders_of new q ∙ ap is_some (updates q) ∙ out (eq h q) n (lookup (eq q) old)
+    ∙ ap (λ b. b || is_some (lookup (eq q) old)) (holder_eq h q ∙ (eq_by_cmp_equiv holder_total).symm h q)
+    ∙ ap (λ b. same_holder q h || b) (sym (contains-holders_of old q)) ∙ sym (set.contains-insert holder_total (holders_of old) h q))
+  where
+    out : (b : Bool) (n : ℕ) (o : Option ℕ) → is_some (cond b (Some n) o) ≡ (b || is_some o)
+    out true n o = refl
+    out false n o = refl
+
+-- rows that differ at one holder alone
+pub table_of-updated : (old new : List (Holder × ℕ)) (h : Holder) (n : ℕ)
+    → ((q : Holder) → lookup (eq q) new ≡ cond (eq h q) (Some n) (lookup (eq q) old)) → table_of new ≡ with_row (table_of old) h n
+table_of-updated old new h n updates = λ i. record { held = held_of-updated old new h n updates i; rows = holders_of-updated old new h n updates i }
+
+-- the total after a change at one holder
+pub total-with_row : (old new : AssetTable) (h : Holder) (n total was : ℕ) → total ≡ sum_held old.held → was ≡ amount old.held h → new ≡ with_row old h n → total - was + n ≡ sum_held new.held
+total-with_row old new h n total was e f g =
+    let changed : sum_held new.held ≡ sum_held (set_amount old.held h n) = ap (λ (t : AssetTable). sum_held t.held) g in
+    omega (arith, amount_within_sum old.held h, sum_held-set_amount old.held h n)
+
+pub was_within : (table : AssetTable) (h : Holder) (total was : ℕ) → total ≡ sum_held table.held → was ≡ amount table.held h → was ≤ total
+was_within table h total was e f = omega (arith, amount_within_sum table.held h)

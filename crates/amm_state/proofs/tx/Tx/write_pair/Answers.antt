@@ -1,0 +1,21 @@
+use Rattle.std.proofs.Common.{◌≡◌, Some, refl, ap, sym, ◌∙◌}
+use Rattle.std.specs.Option.{option_copied}
+use Rattle.amm_model.specs.Ledger.{pair_of, set_pair}
+use Rattle.amm_state.specs.Book.{BookView}
+use Rattle.amm_state.specs.Tx.{Progress}
+use Rattle.amm_state.proofs.JournalLemmas.{pair_changed, pair_leads_back}
+use Rattle.amm_state.proofs.tx.Tx.write_pair.Goals as goal
+
+pub invariant_of-self-2 : goal.invariant_of-self-2
+invariant_of-self-2 c =
+    let was : pair_of c.self.inside.book.ledger.pairs c.args.pool.now ≡ Some c.unwrap-before.result.now = sym c.pair.ensures ∙ ap option_copied c.unwrap-before.ensures in
+    pair_changed c.self.inside.journal _ c.self.inside.book _ c.args.pool.now c.unwrap-before.result.now c.args.new _ c.in_ok-push.ensures.ok refl was c.set_pair.ensures c.self.invariant
+
+pub returns-clause-ok : goal.returns-clause-ok
+returns-clause-ok c =
+    let was : pair_of c.self.inside.book.ledger.pairs c.args.pool.now ≡ Some c.unwrap-before.result.now = sym c.pair.ensures ∙ ap option_copied c.unwrap-before.ensures in
+    let opening = pair_leads_back c.self.inside.journal _ c.self.inside.book _ c.args.pool.now c.unwrap-before.result.now c.args.new _ c.in_ok-push.ensures.ok refl was c.set_pair.ensures
+    ∙ ap (λ (t : Progress). t.opening) c.self.view_is in
+    let present = ap (λ (b : BookView). b.ledger) c.set_pair.ensures ∙ ap (λ (t : Progress). record t.present { pairs = set_pair t.present.pairs c.args.pool.now c.args.new }) c.self.view_is in
+    let mark = ap (λ (t : Progress). t.mark) c.self.view_is in
+    λ i. record { opening = opening i; present = present i; mark = mark i }

@@ -1,0 +1,20 @@
+//! The ledger in tables, and transactions over it.
+//!
+//! A `State` is a ledger at rest: sound, with no pair locked. A `Tx` changes it call by call, each exactly as the
+//! call's definition says, and notes what takes each change back. It ends in `commit`, which keeps the present
+//! ledger, or in `rollback`, which gives back the opening one whatever happened. After a fault only `rollback` helps.
+#![tactic(auto)]
+
+mod book;
+mod journal;
+mod mark;
+mod rows;
+mod state;
+#[cfg(test)]
+mod tests;
+mod tx;
+
+pub use book::Book;
+pub use mark::Mark;
+pub use state::State;
+pub use tx::Tx;

@@ -1,0 +1,49 @@
+//! The ledger between transactions.
+ghost use Rattle.std.specs.Prelude.{◌≡◌, IfOk};
+ghost use Rattle.amm_model.specs.Ledger.{opening_ledger};
+ghost use Rattle.amm_model.specs.Sound.{IsAtRest};
+
+use crate::Book;
+use amm_names::{Memory, UserName};
+use std::alloc::Global;
+use std::marker::Model;
+
+/// A book that is sound, with no pair locked.
+#[derive(Drop)]
+pub struct State {
+    pub(crate) book: Book,
+}
+
+impl Model for State {
+    ghost use Rattle.amm_model.specs.Ledger.{Ledger};
+    ghost use Rattle.amm_model.specs.Codes.{ledger_code};
+    ghost use Rattle.amm_model.specs.Sound.{IsAtRest};
+
+    ghost Value = { Ledger };
+
+    ghost coded = { ledger_code };
+
+    ghost view = { λ state. state.book.ledger };
+
+    ghost invariant = { λ state. IsAtRest state.book.ledger };
+}
+
+impl State {
+    /// The ledger in which nobody has anything and `admin` is the setter.
+    pub fn new(alloc: Global) -> Result<State, Memory>
+        ensures { IfOk result (λ state. state ≡ opening_ledger) }
+    {
+        let setter = UserName::read(alloc, b"admin".as_slice())?.unwrap();
+        Ok(State {
+            book: Book::new(alloc, setter),
+        })
+    }
+
+    /// The ledger, which is at rest.
+    pub fn book(&self) -> &Book
+        ensures ledger { result.now.ledger ≡ self.now }
+        ensures rest { IsAtRest self.now }
+    {
+        &self.book
+    }
+}
