@@ -13,3 +13,4 @@ pub mod Lines
 pub mod CommandView
 pub mod Factory
 pub mod Meaning
+pub mod Laws

@@ -1,0 +1,365 @@
+-- Soundness and rest are kept by the operations that leave every pair as it is.
+use Rattle.std.proofs.Common.{◌≡◌, ◌≢◌, ◌≤◌, ◌<◌, ◌+◌, ◌++◌, ◌∷◌, [], ℕ, nat_lt, nat_le, Bool, true, false, ◌||◌, List, length, Ok, Err, IsSome, inl, inr, refl, sym, ap, ◌∙◌, subst, arith, length-append}
+use Rattle.std.specs.Prelude.{if◌then◌else◌}
+use Rattle.std.specs.Map.{keys_of}
+use Rattle.std.specs.List.{IsDistinct}
+use Rattle.std.proofs.lemmas.List.Folds.{list_any-append}
+use Rattle.std.proofs.lemmas.Bool.Decides.{nat_tests}
+use Rattle.amm_names.specs.declared.holder.Holder.{Holder}
+use Rattle.amm_names.specs.declared.holder.Holder.TheVariants as holders
+use Rattle.amm_names.specs.declared.holder.Asset.{Asset}
+use Rattle.amm_names.specs.declared.holder.Asset.TheVariants as assets
+use Rattle.amm_names.specs.Pools.{pool_token0, pool_token1}
+use Rattle.amm_model.specs.declared.pair.PairRecord.{PairRecord}
+use Rattle.amm_model.specs.declared.fault.Refusal.TheVariants as code
+use Rattle.amm_model.specs.Ledger.{Ledger, HoldingsByAsset, Pairs, Made, done, holdings_of, sum_held, balance, total, total_limit, token_limit, quote_limit, observation_limit, is_listed, pair_of, list, issue, retire, transfer, added, set_time, with_fee_to, with_setter}
+use Rattle.amm_model.specs.Pools.{same_name, asset0, asset1}
+use Rattle.amm_model.specs.Formulas.{IsBacked}
+use Rattle.amm_model.specs.Sound.{IsSoundPair, IsKnown, IsSound, IsAtRest}
+use Rattle.amm_model.specs.Laws.{ZeroKept, TokenTotalsKept, Deposited, Withdrawn}
+use Rattle.amm_model.proofs.Guards.{past_refusal, same_answer}
+use Rattle.amm_model.proofs.Names.{asset_cases, same_name_itself}
+use Rattle.amm_model.proofs.Balances.{Rest, Added, added_added, Taken}
+use Rattle.amm_model.proofs.Transfers.{Sent, transfer_sent, retire_taken}
+use Rattle.amm_model.proofs.Soundness.{OnlyAt, share_not_token}
+
+-- every pair stays as it is, and no pool and not the zero holder lose anything
+pub record Plain (old new : Ledger) : Type 0 where
+  pub pairs : new.pairs ≡ old.pairs
+  pub listed : (token : List ℕ) → is_listed old.tokens token ≡ true → is_listed new.tokens token ≡ true
+  pub held : (asset : Asset) (pool : List ℕ) → balance old asset (holders.Pool pool) ≤ balance new asset (holders.Pool pool)
+  pub zero : ZeroKept old new
+  pub shares : (pool : List ℕ) → total new (assets.Share pool) ≡ total old (assets.Share pool)
+
+-- the totals are within their limit and known, and the counts within theirs
+pub record Counted (ledger : Ledger) : Type 0 where
+  pub totals : (asset : Asset) → total ledger asset ≤ total_limit
+  pub known : (asset : Asset) → total ledger asset ≢ 0 → IsKnown ledger asset
+  pub tokens : length ledger.tokens ≤ token_limit
+  pub time : ledger.time ≤ total_limit
+  pub quotes : length ledger.quotes ≤ quote_limit
+  pub observations : length ledger.observations ≤ observation_limit
+
+pub plain_known : (old new : Ledger) → Plain old new → (asset : Asset) → IsKnown old asset → IsKnown new asset
+plain_known old new plain (assets.Token name) is = plain.listed name is
+plain_known old new plain (assets.Share pool) is = subst (λ (ps : Pairs). IsSome (pair_of ps pool)) (sym plain.pairs) is
+
+pub plain_sound : (old new : Ledger) → IsSound old → Plain old new → Counted new → IsSound new
+plain_sound old new sound plain counted = record {
+  pairs = λ pool pair is. same_pair pool pair (sound.pairs pool pair (sym (ap (λ (ps : Pairs). pair_of ps pool) plain.pairs) ∙ is));
+  names = subst (λ (ps : Pairs). IsDistinct same_name (keys_of ps)) (sym plain.pairs) sound.names;
+  totals = counted.totals;
+  known = counted.known;
+  tokens = counted.tokens;
+  count = omega (arith, ap length plain.pairs, sound.count);
+  time = counted.time;
+  quotes = counted.quotes;
+  observations = counted.observations;
+} where
+  same_pair : (pool : List ℕ) (pair : PairRecord) → IsSoundPair old pool pair → IsSoundPair new pool pair
+  same_pair pool pair was = record {
+    listed = (plain.listed (pool_token0 pool) was.listed.0, plain.listed (pool_token1 pool) was.listed.1);
+    small = was.small;
+    covered = λ free. record {
+      first = omega (arith, (was.covered free).first, plain.held (asset0 pool) pool);
+      second = omega (arith, (was.covered free).second, plain.held (asset1 pool) pool);
+    };
+    backed = subst (λ (s : ℕ). IsBacked s pair.r0 pair.r1 pair.k_last) (sym (plain.shares pool)) was.backed;
+    kept = elim was.kept [ inl none ↦ inl (plain.shares pool ∙ none) | inr some ↦ inr (omega (arith, plain.zero (assets.Share pool))) ];
+  }
+
+-- where every pair is as it was, none becomes locked
+pub rest_from : (old new : Ledger) → IsAtRest old → new.pairs ≡ old.pairs → IsSound new → IsAtRest new
+rest_from old new rest same sound = record {
+  sound = sound;
+  unlocked = λ pool pair is. rest.unlocked pool pair (sym (ap (λ (ps : Pairs). pair_of ps pool) same) ∙ is);
+}
+
+-- ---- only balances change
+
+rest_counted : (old new : Ledger) → IsSound old → Rest old new → ((asset : Asset) → total new asset ≤ total_limit) → ((asset : Asset) → total new asset ≢ 0 → IsKnown new asset) → Counted new
+rest_counted old new sound rest totals known = record {
+  totals = totals;
+  known = known;
+  tokens = omega (arith, ap length rest.tokens, sound.tokens);
+  time = omega (arith, rest.time, sound.time);
+  quotes = omega (arith, ap length rest.quotes, sound.quotes);
+  observations = omega (arith, ap length rest.observations, sound.observations);
+}
+
+still_listed : (old new : Ledger) → new.tokens ≡ old.tokens → (token : List ℕ) → is_listed old.tokens token ≡ true → is_listed new.tokens token ≡ true
+still_listed old new same token is = ap (λ (ts : List (List ℕ)). is_listed ts token) same ∙ is
+
+-- ---- transfer
+
+not_user : (user pool : List ℕ) → holders.Pool pool ≢ holders.User user
+not_user user pool e = cc
+
+zero_no_user : (user : List ℕ) → holders.Zero ≢ holders.User user
+zero_no_user user e = cc
+
+pub sent_plain : (asset : Asset) (user : List ℕ) (n : ℕ) (old new : Ledger) → Sent asset (holders.User user) n old new → Plain old new
+sent_plain asset user n old new sent = record {
+  pairs = sent.rest.pairs;
+  listed = still_listed old new sent.rest.tokens;
+  held = λ q pool. sent.grown q (holders.Pool pool) (not_user user pool);
+  zero = λ q. sent.grown q holders.Zero (zero_no_user user);
+  shares = λ pool. sent.totals (assets.Share pool);
+}
+
+module _ (old : Ledger) (asset : Asset) (user : List ℕ) (to : Holder) (n : ℕ) (made : Made (Unit {0})) (is : transfer old asset (holders.User user) to n ≡ Ok made) where
+  pub transfer_plain : Plain old made.ledger
+  transfer_plain = sent_plain asset user n old made.ledger (transfer_sent old asset (holders.User user) to n made is)
+
+  pub transfer_sound : IsSound old → IsSound made.ledger
+  transfer_sound sound =
+      let sent = transfer_sent old asset (holders.User user) to n made is in
+      plain_sound old made.ledger sound transfer_plain (rest_counted old made.ledger sound sent.rest
+      (λ q. omega (arith, sent.totals q, sound.totals q))
+      (λ q some. plain_known old made.ledger transfer_plain q (sound.known q (λ none. some (sent.totals q ∙ none)))))
+
+  pub transfer_rest : IsAtRest old → IsAtRest made.ledger
+  transfer_rest rest = rest_from old made.ledger rest transfer_plain.pairs (transfer_sound rest.sound)
+
+  pub transfer_totals : TokenTotalsKept old made.ledger
+  transfer_totals token = (transfer_sent old asset (holders.User user) to n made is).totals (assets.Token token)
+
+-- ---- issue
+
+-- what an accepted issue leaves
+pub issue_added : (l : Ledger) (a : Asset) (h : Holder) (n : ℕ) (made : Made (Unit {0})) → issue l a h n ≡ Ok made → (total l a + n ≤ total_limit) × Added a h n l made.ledger
+unfolding issue
+issue_added l a h n made is =
+    let past = past_refusal (nat_lt total_limit (total l a + n)) code.TotalLimit _ made is in
+    let told : nat_lt total_limit (total l a + n) ≡ false = past.0 in
+    let fits : total l a + n ≤ total_limit = grind (arith, nat_tests) in
+    let e = same_answer (record { ledger = added l a h n; answer = tt }) made past.1 in
+    (fits, subst (λ (k : Made (Unit {0})). Added a h n l k.ledger) e (added_added l a h n))
+
+share_no_token : (pool name : List ℕ) → assets.Share pool ≢ assets.Token name
+share_no_token pool name e = cc
+
+tokens_other : (x y : List ℕ) → x ≢ y → assets.Token x ≢ assets.Token y
+tokens_other x y apart e = apart (let same : x ≡ y = cc in same)
+
+module _ (old : Ledger) (token : List ℕ) (to : Holder) (n : ℕ) (made : Made (Unit {0})) (is : issue old (assets.Token token) to n ≡ Ok made) where
+  more : (total old (assets.Token token) + n ≤ total_limit) × Added (assets.Token token) to n old made.ledger
+  more = issue_added old (assets.Token token) to n made is
+
+  pub issue_plain : Plain old made.ledger
+  issue_plain = record {
+    pairs = more.1.rest.pairs;
+    listed = still_listed old made.ledger more.1.rest.tokens;
+    held = λ q pool. more.1.grown q (holders.Pool pool);
+    zero = λ q. more.1.grown q holders.Zero;
+    shares = λ pool. more.1.totals (assets.Share pool) (share_no_token pool token);
+  }
+
+  pub issue_sound : is_listed old.tokens token ≡ true → IsSound old → IsSound made.ledger
+  issue_sound listed sound =
+      plain_sound old made.ledger sound issue_plain (rest_counted old made.ledger sound more.1.rest
+      (λ q. elim (asset_cases q (assets.Token token)) [
+        | inl e ↦ subst (λ (k : Asset). total made.ledger k ≤ total_limit) (sym e) (omega (arith, more.0, more.1.whole))
+        | inr apart ↦ omega (arith, more.1.totals q apart, sound.totals q)
+      ])
+      (λ q some. elim (asset_cases q (assets.Token token)) [
+        | inl e ↦ subst (λ (k : Asset). IsKnown made.ledger k) (sym e) (issue_plain.listed token listed)
+        | inr apart ↦ plain_known old made.ledger issue_plain q (sound.known q (λ none. some (more.1.totals q apart ∙ none)))
+      ]))
+
+  pub issue_rest : is_listed old.tokens token ≡ true → IsAtRest old → IsAtRest made.ledger
+  issue_rest listed rest = rest_from old made.ledger rest more.1.rest.pairs (issue_sound listed rest.sound)
+
+  pub issue_deposited : Deposited token n old made.ledger
+  issue_deposited = record { here = more.1.whole; others = λ other apart. more.1.totals (assets.Token other) (tokens_other other token apart) }
+
+-- ---- retire
+
+module _ (old : Ledger) (token user : List ℕ) (n : ℕ) (made : Made (Unit {0})) (is : retire old (assets.Token token) (holders.User user) n ≡ Ok made) where
+  less : Taken (assets.Token token) (holders.User user) n old made.ledger
+  less = (retire_taken old (assets.Token token) (holders.User user) n made is).1
+
+  stays : (q : Asset) (p : Holder) → p ≢ holders.User user → balance old q p ≤ balance made.ledger q p
+  stays q p apart = elim (less.elsewhere q p) [ inl both ↦ absurd (apart both.1) | inr e ↦ omega arith ]
+
+  pub retire_plain : Plain old made.ledger
+  retire_plain = record {
+    pairs = less.rest.pairs;
+    listed = still_listed old made.ledger less.rest.tokens;
+    held = λ q pool. stays q (holders.Pool pool) (not_user user pool);
+    zero = λ q. stays q holders.Zero (zero_no_user user);
+    shares = λ pool. less.totals (assets.Share pool) (share_no_token pool token);
+  }
+
+  fewer : (q : Asset) → total made.ledger q ≤ total old q
+  fewer q = elim (asset_cases q (assets.Token token)) [
+    | inl e ↦ subst (λ (k : Asset). total made.ledger k ≤ total old k) (sym e) (omega (arith, less.whole))
+    | inr apart ↦ omega (arith, less.totals q apart)
+  ]
+
+  pub retire_sound : IsSound old → IsSound made.ledger
+  retire_sound sound =
+      plain_sound old made.ledger sound retire_plain (rest_counted old made.ledger sound less.rest
+      (λ q. omega (arith, fewer q, sound.totals q))
+      (λ q some. plain_known old made.ledger retire_plain q (sound.known q (λ none. some (omega (arith, fewer q))))))
+
+  pub retire_rest : IsAtRest old → IsAtRest made.ledger
+  retire_rest rest = rest_from old made.ledger rest less.rest.pairs (retire_sound rest.sound)
+
+  pub retire_withdrawn : Withdrawn token n old made.ledger
+  retire_withdrawn = record { here = less.whole; others = λ other apart. less.totals (assets.Token other) (tokens_other other token apart) }
+
+-- ---- the settings and the time
+
+module _ (old : Ledger) (to : Holder) where
+  pub fee_to_plain : Plain old (with_fee_to old to)
+  fee_to_plain = record { pairs = refl; listed = λ token is. is; held = λ q pool. omega arith; zero = λ q. omega arith; shares = λ pool. refl }
+
+  pub fee_to_sound : IsSound old → IsSound (with_fee_to old to)
+  fee_to_sound sound = plain_sound old (with_fee_to old to) sound fee_to_plain record {
+    totals = sound.totals;
+    known = λ q some. plain_known old (with_fee_to old to) fee_to_plain q (sound.known q some);
+    tokens = sound.tokens;
+    time = sound.time;
+    quotes = sound.quotes;
+    observations = sound.observations;
+  }
+
+  pub fee_to_rest : IsAtRest old → IsAtRest (with_fee_to old to)
+  fee_to_rest rest = rest_from old (with_fee_to old to) rest refl (fee_to_sound rest.sound)
+
+  pub fee_to_totals : TokenTotalsKept old (with_fee_to old to)
+  fee_to_totals token = refl
+
+module _ (old : Ledger) (to : List ℕ) where
+  pub setter_plain : Plain old (with_setter old to)
+  setter_plain = record { pairs = refl; listed = λ token is. is; held = λ q pool. omega arith; zero = λ q. omega arith; shares = λ pool. refl }
+
+  pub setter_sound : IsSound old → IsSound (with_setter old to)
+  setter_sound sound = plain_sound old (with_setter old to) sound setter_plain record {
+    totals = sound.totals;
+    known = λ q some. plain_known old (with_setter old to) setter_plain q (sound.known q some);
+    tokens = sound.tokens;
+    time = sound.time;
+    quotes = sound.quotes;
+    observations = sound.observations;
+  }
+
+  pub setter_rest : IsAtRest old → IsAtRest (with_setter old to)
+  setter_rest rest = rest_from old (with_setter old to) rest refl (setter_sound rest.sound)
+
+  pub setter_totals : TokenTotalsKept old (with_setter old to)
+  setter_totals token = refl
+
+abbrev pub at_time : Ledger → ℕ → Ledger
+at_time old time = record old { time = time }
+
+at_time_plain : (old : Ledger) (time : ℕ) → Plain old (at_time old time)
+at_time_plain old time = record { pairs = refl; listed = λ token is. is; held = λ q pool. omega arith; zero = λ q. omega arith; shares = λ pool. refl }
+
+at_time_sound : (old : Ledger) (time : ℕ) → time ≤ total_limit → IsSound old → IsSound (at_time old time)
+at_time_sound old time limit sound = plain_sound old (at_time old time) sound (at_time_plain old time) record {
+  totals = sound.totals;
+  known = λ q some. plain_known old (at_time old time) (at_time_plain old time) q (sound.known q some);
+  tokens = sound.tokens;
+  time = limit;
+  quotes = sound.quotes;
+  observations = sound.observations;
+}
+
+module _ (old : Ledger) (time : ℕ) (made : Made (Unit {0})) (is : set_time old time ≡ Ok made) where
+  later : at_time old time ≡ made.ledger
+  later =
+      let past = past_refusal (nat_lt time old.time) code.TimeBack (done (at_time old time)) made is in
+      ap (λ (k : Made (Unit {0})). k.ledger) (same_answer (record { ledger = at_time old time; answer = tt }) made past.1)
+
+  pub set_time_plain : Plain old made.ledger
+  set_time_plain = subst (Plain old) later (at_time_plain old time)
+
+  pub set_time_sound : time ≤ total_limit → IsSound old → IsSound made.ledger
+  set_time_sound limit sound = subst IsSound later (at_time_sound old time limit sound)
+
+  pub set_time_rest : time ≤ total_limit → IsAtRest old → IsAtRest made.ledger
+  set_time_rest limit rest = rest_from old made.ledger rest set_time_plain.pairs (set_time_sound limit rest.sound)
+
+  pub set_time_totals : TokenTotalsKept old made.ledger
+  set_time_totals token = ap (λ (l : Ledger). total l (assets.Token token)) (sym later)
+
+-- ---- list
+
+abbrev pub one_more : Ledger → List ℕ → Ledger
+one_more old token = record old { tokens = old.tokens ++ token ∷ [] }
+
+listed_before : (tokens : List (List ℕ)) (token name : List ℕ) → is_listed tokens name ≡ true → is_listed (tokens ++ token ∷ []) name ≡ true
+listed_before tokens token name is = list_any-append (same_name name) tokens (token ∷ []) ∙ ap (λ b. b || is_listed (token ∷ []) name) is
+
+listed_last : (tokens : List (List ℕ)) (token : List ℕ) → is_listed (tokens ++ token ∷ []) token ≡ true
+listed_last tokens token = list_any-append (same_name token) tokens (token ∷ []) ∙ either (is_listed tokens token) (is_listed (token ∷ []) token) (ap (λ b. b || false) (same_name_itself token))
+  where
+    either : (a b : Bool) → b ≡ true → (a || b) ≡ true
+    either true b e = refl
+    either false b e = e
+
+one_more_plain : (old : Ledger) (token : List ℕ) → Plain old (one_more old token)
+one_more_plain old token = record { pairs = refl; listed = listed_before old.tokens token; held = λ q pool. omega arith; zero = λ q. omega arith; shares = λ pool. refl }
+
+-- nothing but the list of tokens changed, and the token is in it now
+pub record Listed (token : List ℕ) (old new : Ledger) : Type 0 where
+  pub holdings : new.holdings ≡ old.holdings
+  pub plain : Plain old new
+  pub counted : IsSound old → Counted new
+  pub here : is_listed new.tokens token ≡ true
+
+one_more_listed : (old : Ledger) (token : List ℕ) → length old.tokens < token_limit → Listed token old (one_more old token)
+one_more_listed old token room = record {
+  holdings = refl;
+  plain = one_more_plain old token;
+  counted = λ sound. record {
+    totals = sound.totals;
+    known = λ q some. plain_known old (one_more old token) (one_more_plain old token) q (sound.known q some);
+    tokens = omega (arith, length-append old.tokens (token ∷ []));
+    time = sound.time;
+    quotes = sound.quotes;
+    observations = sound.observations;
+  };
+  here = listed_last old.tokens token;
+}
+
+listed_already : (old : Ledger) (token : List ℕ) → is_listed old.tokens token ≡ true → Listed token old old
+listed_already old token is = record {
+  holdings = refl;
+  plain = record { pairs = refl; listed = λ name there. there; held = λ q pool. omega arith; zero = λ q. omega arith; shares = λ pool. refl };
+  counted = λ sound. record { totals = sound.totals; known = sound.known; tokens = sound.tokens; time = sound.time; quotes = sound.quotes; observations = sound.observations };
+  here = is;
+}
+
+pub list_listed : (old : Ledger) (token : List ℕ) (made : Made (Unit {0})) → list old token ≡ Ok made → Listed token old made.ledger
+list_listed old token made is =
+    elim (is_listed old.tokens token) as (λ b. is_listed old.tokens token ≡ b → (if b then done old else (if nat_le token_limit (length old.tokens) then Err code.TokenLimit else done (one_more old token))) ≡ Ok made → Listed token old made.ledger) [
+      | true ↦ λ there gives. subst (λ (k : Made (Unit {0})). Listed token old k.ledger) (same_answer (record { ledger = old; answer = tt }) made gives) (listed_already old token there)
+      | false ↦ λ absent gives. (let past = past_refusal (nat_le token_limit (length old.tokens)) code.TokenLimit (done (one_more old token)) made gives in
+          let told : nat_le token_limit (length old.tokens) ≡ false = past.0 in
+          let room : length old.tokens < token_limit = grind (arith, nat_tests) in
+          subst (λ (k : Made (Unit {0})). Listed token old k.ledger) (same_answer (record { ledger = one_more old token; answer = tt }) made past.1) (one_more_listed old token room))
+    ] refl is
+
+module _ (old : Ledger) (token : List ℕ) (made : Made (Unit {0})) (is : list old token ≡ Ok made) where
+  named : Listed token old made.ledger
+  named = list_listed old token made is
+
+  pub list_plain : Plain old made.ledger
+  list_plain = named.plain
+
+  pub list_sound : IsSound old → IsSound made.ledger
+  list_sound sound = plain_sound old made.ledger sound named.plain (named.counted sound)
+
+  pub list_rest : IsAtRest old → IsAtRest made.ledger
+  list_rest rest = rest_from old made.ledger rest named.plain.pairs (list_sound rest.sound)
+
+  pub list_totals : TokenTotalsKept old made.ledger
+  list_totals name = ap (λ (all : HoldingsByAsset). sum_held (holdings_of all (assets.Token name))) named.holdings
+
+-- ---- the pairs' operations, where all but one pool stay
+
+pub only_at_totals : (pool : List ℕ) (old new : Ledger) → OnlyAt pool old new → TokenTotalsKept old new
+only_at_totals pool old new only token = only.totals (assets.Token token) (share_not_token pool token)
