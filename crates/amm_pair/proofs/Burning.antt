@@ -1,0 +1,205 @@
+-- What an accepted burn leaves.
+use Rattle.std.proofs.Common.{◌≡◌, ◌≢◌, ◌≤◌, ◌<◌, ◌+◌, ◌-◌, ◌*◌, ◌==◌, ◌||◌, ℕ, List, Ok, refl, sym, ap, ◌∙◌, Some, inl, inr, subst, arith}
+use Rattle.std.proofs.Math.Nat.{mul-le-mul, mul-le-mul_right, div-mul-le_self}
+use Rattle.amm_names.specs.declared.holder.Holder.{Holder}
+use Rattle.amm_names.specs.declared.holder.Holder.TheVariants as holders
+use Rattle.amm_names.specs.declared.holder.Asset.TheVariants as assets
+use Rattle.amm_model.specs.declared.pair.PairRecord.{PairRecord}
+use Rattle.amm_model.specs.declared.pair.BurnReceipt.{BurnReceipt}
+use Rattle.amm_model.specs.declared.fault.Refusal.TheVariants as code
+use Rattle.amm_names.specs.Pools.{pool_token0, pool_token1}
+use Rattle.amm_model.specs.Ledger.{Ledger, Made, Pairs, transfer, retire, pair_of, with_pair}
+use Rattle.amm_model.specs.Pools.{asset0, asset1, held0, held1, supply}
+use Rattle.amm_model.specs.Operations.{free_pair, updated, renewed, is_nobody, fee_due, with_fee, after_fee, with_product, own_shares, parts_of, pay_out, burn, PerShareKept}
+use Rattle.amm_model.specs.Sound.{IsCovered, IsSoundPair, IsSound}
+use Rattle.amm_pool.proofs.Products.{burned_product}
+use Rattle.amm_model.proofs.Guards.{given, not_refused, same_answer}
+use Rattle.amm_model.proofs.Names.{some_there, one_value, pair_of-set_here}
+use Rattle.amm_model.proofs.Balances.{Taken}
+use Rattle.amm_model.proofs.Transfers.{Sent, transfer_sent, retire_taken}
+use Rattle.amm_model.proofs.Soundness.{OnlyAt, only_at_then, sent_only, taken_only, share_not_token, tokens_apart}
+use Rattle.amm_pair.proofs.Operations.{Found, free_found, Renewed, updated_renewed, settled_sound, IsKept}
+use Rattle.amm_pair.proofs.Minting.{covered_scaled, square_small}
+use Rattle.amm_pair.proofs.Shares.{Grown, fee_grown, grown_only, Closed, closed, fee_due_within, no_fee_due, not_zero}
+
+-- a burn that pays out: its shares end, and then each part is sent
+pub record PaidOut (pool : List ℕ) (shares : ℕ) (parts : BurnReceipt) (old new : Ledger) : Type 0 where
+  pub fewer : Ledger
+  pub half : Ledger
+  pub taken : Taken (assets.Share pool) (holders.Pool pool) shares old fewer
+  pub first : Sent (asset0 pool) (holders.Pool pool) parts.amount0 fewer half
+  pub second : Sent (asset1 pool) (holders.Pool pool) parts.amount1 half new
+
+pub pay_out_paid : (l : Ledger) (pool : List ℕ) (to : Holder) (shares : ℕ) (parts : BurnReceipt) (made : Made (Unit {0})) → pay_out l pool to shares parts ≡ Ok made → PaidOut pool shares parts l made.ledger
+unfolding pay_out
+pay_out_paid l pool to shares parts made is =
+    let one = given (retire l (assets.Share pool) (holders.Pool pool) shares) _ made is in
+    let two = given (transfer one.value.ledger (asset0 pool) (holders.Pool pool) to parts.amount0) _ made one.after in
+    record {
+      fewer = one.value.ledger;
+      half = two.value.ledger;
+      taken = (retire_taken l (assets.Share pool) (holders.Pool pool) shares one.value one.was).1;
+      first = transfer_sent one.value.ledger (asset0 pool) (holders.Pool pool) to parts.amount0 two.value two.was;
+      second = transfer_sent two.value.ledger (asset1 pool) (holders.Pool pool) to parts.amount1 made two.after;
+    }
+
+pub pay_out_pairs : (l : Ledger) (pool : List ℕ) (to : Holder) (shares : ℕ) (parts : BurnReceipt) (made : Made (Unit {0})) → pay_out l pool to shares parts ≡ Ok made → made.ledger.pairs ≡ l.pairs
+pay_out_pairs l pool to shares parts made is = let p = pay_out_paid l pool to shares parts made is in p.second.rest.pairs ∙ p.first.rest.pairs ∙ p.taken.rest.pairs
+
+parts_fit : (l : Ledger) (pool : List ℕ) (s fee : ℕ) → ((parts_of l pool s fee).amount0 * s ≤ own_shares l pool * held0 l pool) × ((parts_of l pool s fee).amount1 * s ≤ own_shares l pool * held1 l pool)
+unfolding parts_of
+parts_fit l pool s fee = (div-mul-le_self (own_shares l pool * held0 l pool) s, div-mul-le_self (own_shares l pool * held1 l pool) s)
+
+parts_fee : (l : Ledger) (pool : List ℕ) (s fee : ℕ) → (parts_of l pool s fee).fee_shares ≡ fee
+unfolding parts_of
+parts_fee l pool s fee = refl
+
+-- what stays against what there was, where at most the parts went out
+burned_at_most : (s own r0 r1 b0 b1 m0 m1 h0 h1 k : ℕ) → r0 ≤ b0 → r1 ≤ b1 → m0 * s ≤ own * b0 → m1 * s ≤ own * b1 → m0 ≤ b0 → m1 ≤ b1 → b0 ≤ h0 + m0 → b1 ≤ h1 + m1 → k + own ≡ s
+    → (r0 * r1) * (k * k) ≤ (h0 * h1) * (s * s)
+burned_at_most s own r0 r1 b0 b1 m0 m1 h0 h1 k over0 over1 part0 part1 fit0 fit1 stay0 stay1 left =
+    let product : (r0 * r1) * (k * k) ≤ ((b0 - m0) * (b1 - m1)) * (s * s) =
+    burned_product s own r0 r1 b0 b1 m0 m1 (b0 - m0) (b1 - m1) k over0 over1 part0 part1 (omega arith) (omega arith) left in
+    let low0 : b0 - m0 ≤ h0 = omega arith in
+    let low1 : b1 - m1 ≤ h1 = omega arith in
+    let both : (b0 - m0) * (b1 - m1) ≤ h0 * h1 = mul-le-mul low0 low1 in
+    let wide : ((b0 - m0) * (b1 - m1)) * (s * s) ≤ (h0 * h1) * (s * s) = mul-le-mul_right (s * s) both in
+    joined product wide
+  where
+    joined : {x y z : ℕ} → x ≤ y → y ≤ z → x ≤ z
+    joined p q = omega arith
+
+-- what a burn leaves
+pub record Burned (old : Ledger) (pool : List ℕ) (made : Ledger) (receipt : BurnReceipt) : Type 0 where
+  pub was : PairRecord
+  pub found : Found old pool was
+  pub some : supply old pool + fee_due old pool was ≢ 0
+  pub fee : receipt.fee_shares ≡ fee_due old pool was
+  pub mid : Ledger
+  pub paid : PaidOut pool (own_shares old pool) (parts_of old pool (supply old pool + fee_due old pool was) (fee_due old pool was)) (with_fee old pool (fee_due old pool was)) mid
+  pub now : PairRecord
+  pub renewed : Renewed mid pool (after_fee (is_nobody old.fee_to) was) now
+  pub after : made ≡ with_pair mid pool (with_product (is_nobody old.fee_to) now)
+
+pub burn_burned : (l : Ledger) (pool : List ℕ) (to : Holder) (made : Made BurnReceipt) → burn l pool to ≡ Ok made → Burned l pool made.ledger made.answer
+unfolding burn
+burn_burned l pool to made is =
+    let first = given (free_pair l pool) _ made is in
+    let was : PairRecord = first.value in
+    let fee : ℕ = fee_due l pool was in
+    let s : ℕ = supply l pool + fee in
+    let parts : BurnReceipt = parts_of l pool s fee in
+    let some = not_refused (s == 0) code.InsufficientLiquidityBurned _ made first.after in
+    let pays = not_refused (parts.amount0 == 0 || parts.amount1 == 0) code.InsufficientLiquidityBurned _ made some.1 in
+    let out = given (pay_out (with_fee l pool fee) pool to (own_shares l pool) parts) _ made pays.1 in
+    let second = given (updated out.value.ledger pool (after_fee (is_nobody l.fee_to) was)) _ made out.after in
+    let e = same_answer (record { ledger = with_pair out.value.ledger pool (with_product (is_nobody l.fee_to) second.value); answer = parts }) made second.after in
+    record {
+      was = was;
+      found = free_found l pool was first.was;
+      some = not_zero s some.0;
+      fee = ap (λ (m : Made BurnReceipt). m.answer.fee_shares) (sym e) ∙ parts_fee l pool s fee;
+      mid = out.value.ledger;
+      paid = pay_out_paid (with_fee l pool fee) pool to (own_shares l pool) parts out.value out.was;
+      now = second.value;
+      renewed = updated_renewed out.value.ledger pool (after_fee (is_nobody l.fee_to) was) second.value second.was;
+      after = ap (λ (m : Made BurnReceipt). m.ledger) (sym e);
+    }
+
+-- the ledger with the parts of a burn sent
+module _ (l : Ledger) (pool : List ℕ) (to : Holder) (made : Made BurnReceipt) (apart : pool_token0 pool ≢ pool_token1 pool) (sound : IsSound l) (is : burn l pool to ≡ Ok made) where
+  m : Burned l pool made.ledger made.answer
+  m = burn_burned l pool to made is
+
+  before : IsSoundPair l pool m.was
+  before = sound.pairs pool m.was m.found.there
+
+  covers : IsCovered l pool m.was
+  covers = before.covered m.found.free
+
+  abbrev fee : ℕ
+  fee = fee_due l pool m.was
+
+  abbrev s : ℕ
+  s = supply l pool + fee
+
+  abbrev parts : BurnReceipt
+  parts = parts_of l pool s fee
+
+  abbrev given_fee : Ledger
+  given_fee = with_fee l pool fee
+
+  grown : Grown pool fee l given_fee
+  grown = fee_grown l pool fee
+
+  only : OnlyAt pool l m.mid
+  only = only_at_then pool l given_fee m.mid (grown_only pool fee l given_fee grown)
+      (only_at_then pool given_fee m.paid.fewer m.mid (taken_only pool (own_shares l pool) given_fee m.paid.fewer m.paid.taken)
+      (only_at_then pool m.paid.fewer m.paid.half m.mid (sent_only (asset0 pool) pool parts.amount0 m.paid.fewer m.paid.half m.paid.first) (sent_only (asset1 pool) pool parts.amount1 m.paid.half m.mid m.paid.second)))
+
+  still : pair_of m.mid.pairs pool ≡ Some m.was
+  still = ap (λ (ps : Pairs). pair_of ps pool) (m.paid.second.rest.pairs ∙ m.paid.first.rest.pairs ∙ m.paid.taken.rest.pairs ∙ grown.rest.pairs) ∙ m.found.there
+
+  left : supply m.mid pool + own_shares l pool ≡ s
+  left = omega (arith, m.paid.second.totals (assets.Share pool), m.paid.first.totals (assets.Share pool), m.paid.taken.whole, grown.whole)
+
+  start0 : held0 m.paid.fewer pool ≡ held0 l pool
+  start0 = m.paid.taken.others (asset0 pool) (holders.Pool pool) (share_not_token pool (pool_token0 pool)) ∙ grown.others (asset0 pool) (holders.Pool pool) (share_not_token pool (pool_token0 pool))
+
+  start1 : held1 m.paid.half pool ≡ held1 l pool
+  start1 = m.paid.first.others (asset1 pool) (holders.Pool pool) (tokens_apart (pool_token1 pool) (pool_token0 pool) (λ e. apart (sym e)))
+      ∙ m.paid.taken.others (asset1 pool) (holders.Pool pool) (share_not_token pool (pool_token1 pool)) ∙ grown.others (asset1 pool) (holders.Pool pool) (share_not_token pool (pool_token1 pool))
+
+  end0 : held0 m.mid pool ≡ held0 m.paid.half pool
+  end0 = m.paid.second.others (asset0 pool) (holders.Pool pool) (tokens_apart (pool_token0 pool) (pool_token1 pool) apart)
+
+  product : (m.was.r0 * m.was.r1) * (supply m.mid pool * supply m.mid pool) ≤ (held0 m.mid pool * held1 m.mid pool) * (s * s)
+  product =
+      let fit = parts_fit l pool s fee in
+      burned_at_most s (own_shares l pool) m.was.r0 m.was.r1 (held0 l pool) (held1 l pool) parts.amount0 parts.amount1 (held0 m.mid pool) (held1 m.mid pool) (supply m.mid pool)
+      covers.first covers.second fit.0 fit.1 (omega (arith, m.paid.first.funds, start0)) (omega (arith, m.paid.second.funds, start1))
+      (omega (arith, m.paid.first.least, start0, end0)) (omega (arith, m.paid.second.least, start1)) left
+
+  positive : 0 < s
+  positive = from_apart s m.some
+    where
+      from_apart : (k : ℕ) → k ≢ 0 → 0 < k
+      from_apart k some = omega arith
+
+  square : supply m.mid pool * supply m.mid pool ≤ held0 m.mid pool * held1 m.mid pool
+  square = covered_scaled s (supply m.mid pool) (m.was.r0 * m.was.r1) (held0 m.mid pool * held1 m.mid pool) positive (fee_due_within l pool m.was before.backed) product
+
+  kept : IsKept m.mid pool
+  kept = elim before.kept [
+    | inl none ↦ inl (omega (arith, left, no_fee_due l pool m.was none))
+    | inr some ↦ inr (omega (arith, only.zero (assets.Share pool)))
+  ]
+
+  abbrev final : PairRecord
+  final = with_product (is_nobody l.fee_to) (renewed (after_fee (is_nobody l.fee_to) m.was) m.mid.time (held0 m.mid pool) (held1 m.mid pool))
+
+  final_closed : Closed (supply m.mid pool) (held0 m.mid pool) (held1 m.mid pool) final
+  final_closed = closed (is_nobody l.fee_to) m.was m.mid.time (supply m.mid pool) (held0 m.mid pool) (held1 m.mid pool) before.small m.renewed.small0 m.renewed.small1 square
+
+  made_is : made.ledger ≡ with_pair m.mid pool final
+  made_is = m.after ∙ ap (λ (p : PairRecord). with_pair m.mid pool (with_product (is_nobody l.fee_to) p)) m.renewed.is
+
+  pub burn_sound : IsSound made.ledger
+  burn_sound = subst IsSound (sym made_is)
+      (settled_sound pool l m.mid m.was final sound m.found.there only still
+      (omega (arith, square_small (supply m.mid pool) (held0 m.mid pool) (held1 m.mid pool) square m.renewed.small0 m.renewed.small1))
+      final_closed.small final_closed.r0 final_closed.r1 final_closed.backed kept)
+
+  pub burn_per_share : PerShareKept l made.ledger pool made.answer.fee_shares
+  burn_per_share was now at_old at_new pos =
+      let written : pair_of made.ledger.pairs pool ≡ Some final =
+      ap (λ (k : Ledger). pair_of k.pairs pool) made_is ∙ pair_of-set_here m.mid.pairs pool final (some_there (pair_of m.mid.pairs pool) m.was still) in
+      let e : m.was ≡ was = one_value (pair_of l.pairs pool) m.was was m.found.there at_old in
+      let f : final ≡ now = one_value (pair_of made.ledger.pairs pool) final now written at_new in
+      let t : supply made.ledger pool ≡ supply m.mid pool = ap (λ (k : Ledger). supply k pool) made_is in
+      subst (λ (p : PairRecord). (p.r0 * p.r1) * (supply made.ledger pool * supply made.ledger pool) ≤ (now.r0 * now.r1) * ((supply l pool + made.answer.fee_shares) * (supply l pool + made.answer.fee_shares))) e
+      (subst (λ (p : PairRecord). (m.was.r0 * m.was.r1) * (supply made.ledger pool * supply made.ledger pool) ≤ (p.r0 * p.r1) * ((supply l pool + made.answer.fee_shares) * (supply l pool + made.answer.fee_shares))) f
+      (subst (λ (k : ℕ). (m.was.r0 * m.was.r1) * (supply made.ledger pool * supply made.ledger pool) ≤ (final.r0 * final.r1) * ((supply l pool + k) * (supply l pool + k))) (sym m.fee)
+      (subst (λ (k : ℕ). (m.was.r0 * m.was.r1) * (k * k) ≤ (final.r0 * final.r1) * (s * s)) (sym t)
+      (subst (λ (k : ℕ). (m.was.r0 * m.was.r1) * (supply m.mid pool * supply m.mid pool) ≤ (k * final.r1) * (s * s)) (sym final_closed.r0)
+      (subst (λ (k : ℕ). (m.was.r0 * m.was.r1) * (supply m.mid pool * supply m.mid pool) ≤ (held0 m.mid pool * k) * (s * s)) (sym final_closed.r1) product)))))

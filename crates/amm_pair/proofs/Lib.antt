@@ -1,0 +1,6 @@
+pub mod Tokens
+pub mod Operations
+pub mod Lending
+pub mod Minting
+pub mod Shares
+pub mod Burning

@@ -1,0 +1,19 @@
+//! The operations of a pair: mint, burn, swap, skim and sync, and a loan that is opened, and closed
+//! or abandoned.
+//!
+//! Each call leaves the ledger, answers and refuses exactly as its definition says, whoever
+//! receives. An accepted call leaves a sound ledger sound. A swap and a closed loan never lower the
+//! product of the reserves, and a mint and a burn never lower it against the squared supply after
+//! the protocol's fee.
+#![tactic(auto)]
+
+mod holdings;
+mod liquidity;
+mod loans;
+mod protocol;
+mod records;
+mod surplus;
+
+pub use liquidity::{burn, mint};
+pub use loans::{Loan, abandon_loan, close_loan, open_loan, swap};
+pub use surplus::{skim, sync};

@@ -1,0 +1,337 @@
+//! Loans and swaps: a pool lends under its lock, and is paid back.
+ghost use Rattle.std.specs.Prelude.{◌≡◌, ◌≢◌, ◌≤◌, true, Some, IfOk, OnOk, OnErr, IsTrue};
+ghost use Rattle.amm_names.specs.Pools.{is_pool_name};
+ghost use Rattle.amm_model.specs.Ledger.{pair_of};
+ghost use Rattle.amm_model.specs.Pools.{held0, held1, reserve_limit};
+ghost use Rattle.amm_model.specs.Operations.{lend, open_loan, give_back, swap, came_in, keeps_product, is_token_of};
+ghost use Rattle.amm_model.specs.Sound.{IsSound, IsOpen, ProductKept};
+ghost use Rattle.amm_state.specs.Tx.{Meets};
+
+use crate::holdings::{held0, held1, send0, send1};
+use crate::records::{free_pair, updated};
+use amm_model::{Fault, Holder, PairRecord, PoolName, Refusal, SwapReceipt};
+use amm_pool::admits;
+use amm_state::{Book, Mark, Tx};
+use std::alloc::Global;
+use std::marker::Model;
+
+/// Lends, and is paid back at once by what is already there.
+///
+/// Refused, in this order: NO_PAIR, LOCKED, INSUFFICIENT_OUTPUT_AMOUNT, INSUFFICIENT_LIQUIDITY,
+/// INVALID_TO, INSUFFICIENT_INPUT_AMOUNT, K, OVERFLOW.
+pub fn swap(
+    alloc: Global,
+    tx: &mut Tx,
+    pool: &PoolName,
+    out0: u64,
+    out1: u64,
+    to: &Holder,
+) -> Result<SwapReceipt, Fault>
+    requires clean { tx.old.mark ≡ Mark.Clean }
+    requires sound { IsSound tx.old.present }
+    ensures meets { Meets tx.old tx.new result (swap tx.old.present pool.now out0 out1 to.now) }
+    ensures sound { OnOk result (IsSound tx.new.present) }
+    ensures product { OnOk result (ProductKept tx.old.present tx.new.present pool.now) }
+{
+    // Its clause says that the two tokens differ.
+    let _ = pool.as_bytes();
+    swap_at(alloc, tx, pool, out0, out1, to)
+}
+
+// The same, as its definition says.
+#[tactic(auto, unfolding(amm_model::specs::Operations::swap))]
+fn swap_at(
+    alloc: Global,
+    tx: &mut Tx,
+    pool: &PoolName,
+    out0: u64,
+    out1: u64,
+    to: &Holder,
+) -> Result<SwapReceipt, Fault>
+    requires clean { tx.old.mark ≡ Mark.Clean }
+    requires sound { IsSound tx.old.present }
+    requires named { IsTrue (is_pool_name pool.now) }
+    ensures { Meets tx.old tx.new result (swap tx.old.present pool.now out0 out1 to.now) }
+{
+    let pair = lend_at(alloc, tx, pool, out0, out1, to)?;
+    give_back_at(alloc, tx, pool, &pair, out0, out1)
+}
+
+// Locks the pair and sends what it lends.
+fn lend_at(
+    alloc: Global,
+    tx: &mut Tx,
+    pool: &PoolName,
+    out0: u64,
+    out1: u64,
+    to: &Holder,
+) -> Result<PairRecord, Fault>
+    requires clean { tx.old.mark ≡ Mark.Clean }
+    requires sound { IsSound tx.old.present }
+    requires named { IsTrue (is_pool_name pool.now) }
+    ensures meets { Meets tx.old tx.new result (lend tx.old.present pool.now out0 out1 to.now) }
+    ensures sound { OnOk result (IsSound tx.new.present) }
+    ensures there { IfOk result (λ pair. pair_of tx.new.present.pairs pool.now ≡ Some pair) }
+{
+    lend_free(alloc, tx, pool, out0, out1, to)
+}
+
+#[tactic(auto, unfolding(amm_model::specs::Operations::lend))]
+fn lend_free(
+    alloc: Global,
+    tx: &mut Tx,
+    pool: &PoolName,
+    out0: u64,
+    out1: u64,
+    to: &Holder,
+) -> Result<PairRecord, Fault>
+    requires clean { tx.old.mark ≡ Mark.Clean }
+    requires sound { IsSound tx.old.present }
+    ensures { Meets tx.old tx.new result (lend tx.old.present pool.now out0 out1 to.now) }
+{
+    let pair = match free_pair(tx.book(), pool) {
+        Ok(pair) => pair,
+        Err(why) => return Err(tx.refuse(why)),
+    };
+    if out0 == 0 && out1 == 0 {
+        return Err(tx.refuse(Refusal::InsufficientOutputAmount));
+    }
+    if pair.r0 <= out0 || pair.r1 <= out1 {
+        return Err(tx.refuse(Refusal::InsufficientLiquidity));
+    }
+    if is_token_of(pool, to) {
+        return Err(tx.refuse(Refusal::InvalidTo));
+    }
+    let pair = PairRecord {
+        locked: true,
+        ..pair
+    };
+    tx.set_pair(alloc, pool, pair)?;
+    send0(alloc, tx, pool, to, out0)?;
+    send1(alloc, tx, pool, to, out1)?;
+    Ok(pair)
+}
+
+// Whether the holder is one of the pool's tokens.
+fn is_token_of(pool: &PoolName, to: &Holder) -> bool
+    ensures { result ≡ is_token_of pool.now to.now }
+{
+    match to {
+        Holder::Token(name) => name == pool.token0() || name == pool.token1(),
+        _ => false,
+    }
+}
+
+// Tests what has come in, and frees the pair.
+#[tactic(auto, unfolding(amm_model::specs::Operations::give_back))]
+fn give_back_at(
+    alloc: Global,
+    tx: &mut Tx,
+    pool: &PoolName,
+    pair: &PairRecord,
+    out0: u64,
+    out1: u64,
+) -> Result<SwapReceipt, Fault>
+    requires clean { tx.old.mark ≡ Mark.Clean }
+    requires sound { IsSound tx.old.present }
+    requires there { pair_of tx.old.present.pairs pool.now ≡ Some pair.now }
+    ensures meets { Meets tx.old tx.new result (give_back tx.old.present pool.now out0 out1) }
+    ensures kept { OnErr result (tx.new.present ≡ tx.old.present) }
+{
+    let receipt = came_in(tx.book(), pool, pair, out0, out1);
+    if receipt.in0 == 0 && receipt.in1 == 0 {
+        return Err(tx.refuse(Refusal::InsufficientInputAmount));
+    }
+    if !keeps_product(tx.book(), pool, pair, &receipt) {
+        return Err(tx.refuse(Refusal::K));
+    }
+    let new = match updated(tx.book(), pool, pair) {
+        Ok(new) => new,
+        Err(why) => return Err(tx.refuse(why)),
+    };
+    let free = PairRecord {
+        locked: false,
+        ..new
+    };
+    tx.set_pair(alloc, pool, free)?;
+    Ok(receipt)
+}
+
+// What has come in since the outputs went out.
+fn came_in(book: &Book, pool: &PoolName, pair: &PairRecord, out0: u64, out1: u64) -> SwapReceipt
+    ensures value { result ≡ came_in book.now.ledger pool.now pair.now out0 out1 }
+    ensures within { (result.in0 ≤ held0 book.now.ledger pool.now) × (result.in1 ≤ held1 book.now.ledger pool.now) }
+{
+    SwapReceipt {
+        in0: held0(book, pool).saturating_sub(pair.r0.saturating_sub(out0)),
+        in1: held1(book, pool).saturating_sub(pair.r1.saturating_sub(out1)),
+        out0,
+        out1,
+    }
+}
+
+// Whether what the pool has keeps the product, at the pool's fee.
+fn keeps_product(book: &Book, pool: &PoolName, pair: &PairRecord, receipt: &SwapReceipt) -> bool
+    requires small { (pair.now.r0 ≤ reserve_limit) × (pair.now.r1 ≤ reserve_limit) }
+    requires within { (receipt.now.in0 ≤ held0 book.now.ledger pool.now) × (receipt.now.in1 ≤ held1 book.now.ledger pool.now) }
+    ensures { result ≡ keeps_product book.now.ledger pool.now pair.now receipt.now }
+{
+    admits(
+        pool.fee(),
+        pair.r0,
+        pair.r1,
+        held0(book, pool),
+        held1(book, pool),
+        receipt.in0,
+        receipt.in1,
+    )
+}
+
+/// A loan that is open: its pool, what went out, and the pair's record, which is locked.
+///
+/// It must be spent, by `close_loan` or, in a transaction that failed, by `abandon_loan`.
+pub struct Loan {
+    pool: PoolName,
+    out0: u64,
+    out1: u64,
+    pair: PairRecord,
+}
+
+impl Model for Loan {
+    ghost use Rattle.amm_model.specs.Pools.{Terms};
+
+    ghost Value = { Terms };
+
+    ghost view = { λ l. record { pool = l.pool; out0 = l.out0; out1 = l.out1; pair = l.pair } };
+}
+
+impl Loan {
+    /// The pool that lends.
+    pub fn pool(&self) -> &PoolName
+        ensures { result.now ≡ self.now.pool }
+    {
+        &self.pool
+    }
+
+    /// How much of the first token went out.
+    pub fn out0(&self) -> u64
+        ensures { result ≡ self.now.out0 }
+    {
+        self.out0
+    }
+
+    /// How much of the second token went out.
+    pub fn out1(&self) -> u64
+        ensures { result ≡ self.now.out1 }
+    {
+        self.out1
+    }
+
+    /// The pair's record as the loan left it.
+    pub fn pair(&self) -> PairRecord
+        ensures { result ≡ self.now.pair }
+    {
+        self.pair
+    }
+}
+
+/// Locks the pair and sends what it lends.
+///
+/// Refused, in this order: NO_PAIR, LOCKED, INSUFFICIENT_OUTPUT_AMOUNT, INSUFFICIENT_LIQUIDITY,
+/// INVALID_TO.
+pub fn open_loan(
+    alloc: Global,
+    tx: &mut Tx,
+    pool: &PoolName,
+    out0: u64,
+    out1: u64,
+    to: &Holder,
+) -> Result<Loan, Fault>
+    requires clean { tx.old.mark ≡ Mark.Clean }
+    requires sound { IsSound tx.old.present }
+    ensures meets { Meets tx.old tx.new result (open_loan tx.old.present pool.now out0 out1 to.now) }
+    ensures sound { OnOk result (IsSound tx.new.present) }
+    ensures open { IfOk result (λ loan. IsOpen tx.new.present loan) }
+{
+    // Its clause says that the two tokens differ.
+    let _ = pool.as_bytes();
+    open_at(alloc, tx, pool, out0, out1, to)
+}
+
+// The same, as its definition says.
+fn open_at(
+    alloc: Global,
+    tx: &mut Tx,
+    pool: &PoolName,
+    out0: u64,
+    out1: u64,
+    to: &Holder,
+) -> Result<Loan, Fault>
+    requires clean { tx.old.mark ≡ Mark.Clean }
+    requires sound { IsSound tx.old.present }
+    requires named { IsTrue (is_pool_name pool.now) }
+    ensures { Meets tx.old tx.new result (open_loan tx.old.present pool.now out0 out1 to.now) }
+{
+    let pair = lend_at(alloc, tx, pool, out0, out1, to)?;
+    Ok(Loan {
+        pool: *pool,
+        out0,
+        out1,
+        pair,
+    })
+}
+
+/// Tests what has come in since the loan was made, and frees the pair.
+///
+/// Refused, in this order: INSUFFICIENT_INPUT_AMOUNT, K, OVERFLOW. The ledger stays where it is
+/// refused.
+pub fn close_loan(alloc: Global, tx: &mut Tx, loan: Loan) -> Result<SwapReceipt, Fault>
+    requires clean { tx.old.mark ≡ Mark.Clean }
+    requires sound { IsSound tx.old.present }
+    requires open { IsOpen tx.old.present loan }
+    ensures meets { Meets tx.old tx.new result (give_back tx.old.present loan.pool loan.out0 loan.out1) }
+    ensures kept { OnErr result (tx.new.present ≡ tx.old.present) }
+    ensures sound { OnOk result (IsSound tx.new.present) }
+    ensures product { OnOk result (ProductKept tx.old.present tx.new.present loan.pool) }
+{
+    let Loan {
+        pool,
+        out0,
+        out1,
+        pair,
+    } = loan;
+    close_at(alloc, tx, &pool, &pair, out0, out1)
+}
+
+// The same, of the loan's parts.
+fn close_at(
+    alloc: Global,
+    tx: &mut Tx,
+    pool: &PoolName,
+    pair: &PairRecord,
+    out0: u64,
+    out1: u64,
+) -> Result<SwapReceipt, Fault>
+    requires clean { tx.old.mark ≡ Mark.Clean }
+    requires sound { IsSound tx.old.present }
+    requires there { pair_of tx.old.present.pairs pool.now ≡ Some pair.now }
+    ensures meets { Meets tx.old tx.new result (give_back tx.old.present pool.now out0 out1) }
+    ensures kept { OnErr result (tx.new.present ≡ tx.old.present) }
+    ensures sound { OnOk result (IsSound tx.new.present) }
+    ensures product { OnOk result (ProductKept tx.old.present tx.new.present pool.now) }
+{
+    give_back_at(alloc, tx, pool, pair, out0, out1)
+}
+
+/// Lets a loan go in a transaction that can only be rolled back.
+pub fn abandon_loan(tx: &Tx, loan: Loan)
+    requires { tx.now.mark ≢ Mark.Clean }
+{
+    let _ = tx;
+    let Loan {
+        pool: _,
+        out0: _,
+        out1: _,
+        pair: _,
+    } = loan;
+}

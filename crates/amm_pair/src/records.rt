@@ -1,0 +1,56 @@
+//! The record of a pair, as it is and as an update leaves it.
+ghost use Rattle.std.specs.Prelude.{◌≡◌, ◌≤◌, Some, IfOk};
+ghost use Rattle.amm_model.specs.Ledger.{pair_of};
+ghost use Rattle.amm_model.specs.Operations.{free_pair, updated};
+ghost use Rattle.amm_model.specs.Pools.{supply, reserve_limit};
+ghost use Rattle.amm_model.specs.Sound.{IsSound, IsSmall, IsCovered};
+ghost use Rattle.amm_model.specs.Formulas.{IsBacked};
+
+use crate::holdings::{held0, held1};
+use amm_model::{PairRecord, PoolName, Refusal};
+use amm_pool::accumulate;
+use amm_state::Book;
+
+const RESERVE_LIMIT: u64 = 281474976710655;
+
+/// The pair of the pool, if it is there and not locked.
+pub(crate) fn free_pair(book: &Book, pool: &PoolName) -> Result<PairRecord, Refusal>
+    requires { IsSound book.now.ledger }
+    ensures value { result ≡ free_pair book.now.ledger pool.now }
+    ensures there { IfOk result (λ pair. pair_of book.now.ledger.pairs pool.now ≡ Some pair) }
+    ensures small { IfOk result (λ pair. IsSmall pair) }
+    ensures covered { IfOk result (λ pair. IsCovered book.now.ledger pool.now pair) }
+    ensures backed { IfOk result (λ pair. IsBacked (supply book.now.ledger pool.now) pair.r0 pair.r1 pair.k_last) }
+{
+    match book.pair(pool) {
+        None => Err(Refusal::NoPair),
+        Some(pair) => {
+            if pair.locked {
+                return Err(Refusal::Locked);
+            }
+            Ok(*pair)
+        }
+    }
+}
+
+/// The record with what the pool has as its reserves.
+#[tactic(auto, unfolding(amm_model::specs::Operations::updated))]
+pub(crate) fn updated(
+    book: &Book,
+    pool: &PoolName,
+    pair: &PairRecord,
+) -> Result<PairRecord, Refusal>
+    ensures value { result ≡ updated book.now.ledger pool.now pair.now }
+    ensures reserves { IfOk result (λ new. (new.r0 ≤ reserve_limit) × (new.r1 ≤ reserve_limit)) }
+{
+    let r0 = held0(book, pool);
+    let r1 = held1(book, pool);
+    if r0 > RESERVE_LIMIT || r1 > RESERVE_LIMIT {
+        return Err(Refusal::Overflow);
+    }
+    Ok(PairRecord {
+        r0,
+        r1,
+        ..accumulate(pair, book.time())
+    })
+}

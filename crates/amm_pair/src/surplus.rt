@@ -1,0 +1,82 @@
+//! What a pool has above its reserves: sent away, or taken into the reserves.
+ghost use Rattle.std.specs.Prelude.{◌≡◌, OnOk};
+ghost use Rattle.amm_model.specs.Operations.{excess, skim, sync};
+ghost use Rattle.amm_model.specs.Sound.{IsSound};
+ghost use Rattle.amm_state.specs.Tx.{Meets};
+
+use crate::holdings::{held0, held1, send0, send1};
+use crate::records::{free_pair, updated};
+use amm_model::{Fault, Holder, PairRecord, PoolName, SkimReceipt};
+use amm_state::{Book, Mark, Tx};
+use std::alloc::Global;
+
+/// Makes what the pool has its reserves.
+///
+/// Refused, in this order: NO_PAIR, LOCKED, OVERFLOW.
+pub fn sync(alloc: Global, tx: &mut Tx, pool: &PoolName) -> Result<(), Fault>
+    requires clean { tx.old.mark ≡ Mark.Clean }
+    requires sound { IsSound tx.old.present }
+    ensures meets { Meets tx.old tx.new result (sync tx.old.present pool.now) }
+    ensures sound { OnOk result (IsSound tx.new.present) }
+{
+    sync_at(alloc, tx, pool)
+}
+
+// The same, as its definition says.
+#[tactic(auto, unfolding(amm_model::specs::Operations::sync))]
+fn sync_at(alloc: Global, tx: &mut Tx, pool: &PoolName) -> Result<(), Fault>
+    requires clean { tx.old.mark ≡ Mark.Clean }
+    requires sound { IsSound tx.old.present }
+    ensures { Meets tx.old tx.new result (sync tx.old.present pool.now) }
+{
+    let pair = match free_pair(tx.book(), pool) {
+        Ok(pair) => pair,
+        Err(why) => return Err(tx.refuse(why)),
+    };
+    let new = match updated(tx.book(), pool, &pair) {
+        Ok(new) => new,
+        Err(why) => return Err(tx.refuse(why)),
+    };
+    tx.set_pair(alloc, pool, new)
+}
+
+/// Sends what the pool has above its reserves, and answers how much that was.
+///
+/// Refused, in this order: NO_PAIR, LOCKED.
+pub fn skim(alloc: Global, tx: &mut Tx, pool: &PoolName, to: &Holder) -> Result<SkimReceipt, Fault>
+    requires clean { tx.old.mark ≡ Mark.Clean }
+    requires sound { IsSound tx.old.present }
+    ensures meets { Meets tx.old tx.new result (skim tx.old.present pool.now to.now) }
+    ensures sound { OnOk result (IsSound tx.new.present) }
+{
+    // Its clause says that the two tokens differ.
+    let _ = pool.as_bytes();
+    skim_at(alloc, tx, pool, to)
+}
+
+// The same, as its definition says.
+#[tactic(auto, unfolding(amm_model::specs::Operations::skim))]
+fn skim_at(alloc: Global, tx: &mut Tx, pool: &PoolName, to: &Holder) -> Result<SkimReceipt, Fault>
+    requires clean { tx.old.mark ≡ Mark.Clean }
+    requires sound { IsSound tx.old.present }
+    ensures { Meets tx.old tx.new result (skim tx.old.present pool.now to.now) }
+{
+    let pair = match free_pair(tx.book(), pool) {
+        Ok(pair) => pair,
+        Err(why) => return Err(tx.refuse(why)),
+    };
+    let excess = excess(tx.book(), pool, &pair);
+    send0(alloc, tx, pool, to, excess.sent0)?;
+    send1(alloc, tx, pool, to, excess.sent1)?;
+    Ok(excess)
+}
+
+// What the pool has above its reserves.
+fn excess(book: &Book, pool: &PoolName, pair: &PairRecord) -> SkimReceipt
+    ensures { result ≡ excess book.now.ledger pool.now pair.now }
+{
+    SkimReceipt {
+        sent0: held0(book, pool).saturating_sub(pair.r0),
+        sent1: held1(book, pool).saturating_sub(pair.r1),
+    }
+}
