@@ -17,7 +17,6 @@ use Rattle.std.proofs.lemmas.List.{get_or-map}
 use Rattle.std.proofs.Math.ListN.{length-map}
 use Rattle.std.proofs.lemmas.Slice.Eq.{bytes_eq-Decides}
 use Rattle.amm_model.specs.declared.problem.TokenPlaces.{TokenPlaces}
-use Rattle.amm_names.specs.Pools.{is_before}
 use Rattle.amm_model.specs.declared.problem.ProblemPool.{ProblemPool}
 use Rattle.amm_names.specs.Pools.{is_pool_name, fee_of_digits, pool_fee}
 use Rattle.amm_model.specs.Swap.{IsFee}

@@ -1,7 +1,7 @@
-use Rattle.std.proofs.Common.{◌≡◌, ◌<◌, ◌+◌, ◌-◌, ℕ, arith, true, false, get_or, length, sym, refl, ◌∙◌}
+use Rattle.std.proofs.Common.{◌-◌, arith, length, sym, refl, ◌∙◌}
 use Rattle.std.proofs.lemmas.List.{get_or_read_under}
 use Rattle.amm_model.specs.declared.problem.ProblemPool.{ProblemPool}
-use Rattle.amm_model.specs.Routing.{IsBefore, no_pool}
+use Rattle.amm_model.specs.Routing.{no_pool}
 use Rattle.amm_model.proofs.Problems.{not_before, pairs_before}
 use Rattle.amm_model.proofs.parts.are_ascending.Goals as goal
 

@@ -1,6 +1,4 @@
-use Rattle.std.proofs.Common.{◌≡◌, ◌∷◌, ◌++◌, [], List, ℕ, take, add-one, ap, sym, refl, ◌∙◌}
-use Rattle.amm_model.specs.declared.problem.ProblemPool.{ProblemPool}
-use Rattle.amm_model.specs.Routing.{tokens_of_pools, token0_of, token1_of}
+use Rattle.std.proofs.Common.{add-one, refl}
 use Rattle.amm_model.proofs.Problems.{tokens_of_pools-more}
 use Rattle.amm_model.proofs.parts.tokens_named.Goals as goal
 

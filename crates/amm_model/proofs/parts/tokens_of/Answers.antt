@@ -1,4 +1,3 @@
-use Rattle.std.proofs.Common.{◌≡◌}
 use Rattle.std.proofs.lemmas.List.Filters.{dedup_is}
 use Rattle.amm_model.proofs.Problems.{tokens_ascend, tokens_kept}
 use Rattle.amm_model.proofs.parts.tokens_of.Goals as goal

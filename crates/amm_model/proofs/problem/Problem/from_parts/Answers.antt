@@ -1,6 +1,5 @@
-use Rattle.std.proofs.Common.{◌≡◌, List, refl, sym}
-use Rattle.amm_model.specs.declared.problem.ProblemPool.{ProblemPool}
-use Rattle.amm_model.specs.Routing.{AreParts, AreSpelled, IsProblem}
+use Rattle.std.proofs.Common.{refl}
+use Rattle.amm_model.specs.Routing.{AreParts, AreSpelled}
 use Rattle.amm_model.proofs.problem.Problem.from_parts.Goals as goal
 
 pub invariant_of-result : goal.invariant_of-result
