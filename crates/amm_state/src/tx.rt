@@ -60,12 +60,12 @@ fn undo_one(book: &mut Book, change: Undo)
 }
 
 // Takes back all changes.
-fn undo_everything(book: &mut Book, changes: Journal)
-    requires { IsRevertible changes book.old }
-    ensures { book.new.ledger ≡ undo_all changes book.old.ledger }
+fn undo_everything(book: &mut Book, changes: &mut Journal)
+    requires { IsRevertible changes.old book.old }
+    ensures ledger { book.new.ledger ≡ undo_all changes.old book.old.ledger }
+    ensures emptied { changes.new ≡ [] }
 {
-    let mut left = changes;
-    while let Some(change) = left.pop() {
+    while let Some(change) = changes.pop() {
         undo_one(book, change);
     }
 }
@@ -77,11 +77,10 @@ impl Tx {
         ensures start { result ≡ record { opening = state; present = state; mark = Mark.Clean } }
         ensures rest { IsAtRest state }
     {
-        let State { book } = state;
-        let alloc = book.allocator();
+        let State { book, journal } = state;
         Tx {
             book,
-            journal: Journal::new(alloc),
+            journal,
             mark: Mark::Clean,
         }
     }
@@ -128,10 +127,11 @@ impl Tx {
     {
         let Tx {
             book,
-            journal: _journal,
+            mut journal,
             mark: _mark,
         } = self;
-        State { book }
+        journal.clear();
+        State { book, journal }
     }
 
     /// Gives back the ledger that the transaction began with, whatever happened. It takes no memory.
@@ -141,34 +141,56 @@ impl Tx {
     {
         let Tx {
             mut book,
-            journal,
+            mut journal,
             mark: _mark,
         } = self;
-        undo_everything(&mut book, journal);
-        State { book }
+        undo_everything(&mut book, &mut journal);
+        State { book, journal }
     }
 
-    // Gives the holder this amount, and notes the old one.
+    // Gives the holder n units in place of those that it has, and notes these.
     fn set_balance(
         &mut self,
         alloc: Global,
         asset: &Asset,
         holder: &Holder,
+        before: u64,
         n: u64,
     ) -> Result<(), Memory>
-        requires { total self.old.present asset.now - balance self.old.present asset.now holder.now + n ≤ total_limit }
+        requires whole { total self.old.present asset.now ≤ total_limit }
+        requires before { before ≡ balance self.old.present asset.now holder.now }
+        requires limit { total self.old.present asset.now - before + n ≤ total_limit }
         ensures ok { OnOk result (self.new ≡ record self.old { present = set_balance self.old.present asset.now holder.now n }) }
         ensures err { OnErr result (self.new ≡ self.old) }
     {
-        let _total = self.book.total(asset);
-        let before = self.book.balance(asset, holder);
         self.journal.push(Undo::Balance(*asset, *holder, before))?;
-        match self.book.set_balance(alloc, asset, holder, n) {
+        match self.book.set_balance(alloc, asset, holder, before, n) {
             Ok(()) => Ok(()),
             Err(Memory) => {
                 let _ = self.journal.pop();
                 Err(Memory)
             }
+        }
+    }
+
+    // The same as a call of a transaction.
+    fn write_balance(
+        &mut self,
+        alloc: Global,
+        asset: &Asset,
+        holder: &Holder,
+        before: u64,
+        n: u64,
+    ) -> Result<(), Fault>
+        requires clean { self.old.mark ≡ Mark.Clean }
+        requires whole { total self.old.present asset.now ≤ total_limit }
+        requires before { before ≡ balance self.old.present asset.now holder.now }
+        requires limit { total self.old.present asset.now - before + n ≤ total_limit }
+        ensures { Meets self.old self.new result (done (set_balance self.old.present asset.now holder.now n)) }
+    {
+        match self.set_balance(alloc, asset, holder, before, n) {
+            Ok(()) => Ok(()),
+            Err(_) => Err(self.lack()),
         }
     }
 
@@ -336,15 +358,11 @@ impl Tx {
         requires { self.old.mark ≡ Mark.Clean }
         ensures { Meets self.old self.new result (issue self.old.present asset.now to.now n) }
     {
-        let total = self.book.total(asset);
-        if n > TOTAL_LIMIT - total {
+        let account = self.book.account(asset, to);
+        if n > TOTAL_LIMIT - account.total {
             return Err(self.refuse(Refusal::TotalLimit));
         }
-        let held = self.book.balance(asset, to);
-        match self.set_balance(alloc, asset, to, held + n) {
-            Ok(()) => Ok(()),
-            Err(_) => Err(self.lack()),
-        }
+        self.write_balance(alloc, asset, to, account.amount, account.amount + n)
     }
 
     /// Takes n units of the asset away from a holder. `Funds` exactly where it has fewer.
@@ -359,19 +377,15 @@ impl Tx {
         requires { self.old.mark ≡ Mark.Clean }
         ensures { Meets self.old self.new result (retire self.old.present asset.now from.now n) }
     {
-        let _total = self.book.total(asset);
-        let held = self.book.balance(asset, from);
-        if held < n {
+        let account = self.book.account(asset, from);
+        if account.amount < n {
             return Err(self.refuse(Refusal::Funds));
         }
-        match self.set_balance(alloc, asset, from, held - n) {
-            Ok(()) => Ok(()),
-            Err(_) => Err(self.lack()),
-        }
+        self.write_balance(alloc, asset, from, account.amount, account.amount - n)
     }
 
     /// Moves n units of the asset from one holder to another. `Funds` exactly where the first has fewer.
-    #[tactic(auto, unfolding(amm_model::specs::Ledger::transfer, amm_model::specs::Ledger::retire))]
+    #[tactic(auto, unfolding(amm_model::specs::Ledger::transfer))]
     pub fn move_units(
         &mut self,
         alloc: Global,
@@ -383,15 +397,14 @@ impl Tx {
         requires { self.old.mark ≡ Mark.Clean }
         ensures { Meets self.old self.new result (transfer self.old.present asset.now from.now to.now n) }
     {
-        let _total = self.book.total(asset);
-        let held = self.book.balance(asset, from);
-        if held < n {
+        let account = self.book.account(asset, from);
+        if account.amount < n {
             return Err(self.refuse(Refusal::Funds));
         }
         if from == to {
             return Ok(());
         }
-        self.retire(alloc, asset, from, n)?;
+        self.write_balance(alloc, asset, from, account.amount, account.amount - n)?;
         self.issue(alloc, asset, to, n)
     }
 }
