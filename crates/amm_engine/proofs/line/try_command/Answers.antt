@@ -1,0 +1,14 @@
+use Rattle.amm_model.proofs.Fair.{kept}
+use Rattle.amm_engine.proofs.line.try_command.Goals as goal
+
+pub returns-in_ok-write_reply-in-Ok-clause-accepted :
+    goal.returns-in_ok-write_reply-in-Ok-clause-accepted
+returns-in_ok-write_reply-in-Ok-clause-accepted c = λ _.
+    let meets = c.in-Ok.ensures.meets in
+    record {
+      answer = c.in-Ok.answer;
+      gives = meets.gives;
+      is = c.in_ok-write_reply-in-Ok.ensures;
+      clean = meets.mark;
+      rest = (kept _ _ _ c.requires.rest c.requires.timely meets.gives).rest;
+    }

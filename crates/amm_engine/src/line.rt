@@ -1,0 +1,83 @@
+//! A command within one transaction, and the text of its reply.
+ghost use Rattle.std.specs.Prelude.{◌≡◌, Ok, true, false, OnOk, OnErr};
+ghost use Rattle.amm_state.specs.declared.mark.Mark.{Mark};
+ghost use Rattle.amm_model.specs.Sound.{IsAtRest};
+ghost use Rattle.amm_model.specs.CommandView.{view_of};
+ghost use Rattle.amm_model.specs.Answers.{IsTimely};
+ghost use Rattle.amm_model.specs.ReplyText.{reply_text};
+ghost use Rattle.amm_engine.specs.Commands.{AnswersCommand, Accepted, Declined};
+
+use crate::command::perform;
+use crate::standin::write;
+use amm_model::{Answer, Command, Fault, Memory, Reply};
+use amm_state::{State, Tx};
+use std::alloc::Global;
+
+/// Makes the text that of the reply.
+pub(crate) fn write_reply(
+    alloc: Global,
+    number: u64,
+    answer: Answer,
+    text: &mut Vec<u8>,
+) -> Result<(), Memory>
+    ensures { OnOk result (text.new.items ≡ reply_text (record { line = number; answer = answer })) }
+{
+    *text = write(
+        alloc,
+        &Reply {
+            line: number,
+            answer,
+        },
+    )?;
+    Ok(())
+}
+
+/// Does a command in a transaction of its own. The reply's text is made before the ledger is kept, and a refused command
+/// leaves the ledger as it was.
+pub(crate) fn run(
+    alloc: Global,
+    state: State,
+    number: u64,
+    command: &Command,
+    text: &mut Vec<u8>,
+) -> (State, Result<(), Memory>)
+    requires timely { IsTimely (view_of command.now) }
+    ensures rest { IsAtRest state }
+    ensures ok { OnOk result.1 (AnswersCommand state number (view_of command.now) text.new.items result.0) }
+    ensures err { OnErr result.1 (result.0 ≡ state) }
+{
+    let mut tx = Tx::begin(state);
+    match try_command(alloc, &mut tx, number, command, text) {
+        Ok(true) => (tx.commit(), Ok(())),
+        Ok(false) => (tx.rollback(), Ok(())),
+        Err(Memory) => (tx.rollback(), Err(Memory)),
+    }
+}
+
+/// Tries a command and writes what it gives, or why it is refused. Says whether it was accepted.
+fn try_command(
+    alloc: Global,
+    tx: &mut Tx,
+    number: u64,
+    command: &Command,
+    text: &mut Vec<u8>,
+) -> Result<bool, Memory>
+    requires clean { tx.old.mark ≡ Mark.Clean }
+    requires rest { IsAtRest tx.old.present }
+    requires timely { IsTimely (view_of command.now) }
+    ensures opening { tx.new.opening ≡ tx.old.opening }
+    ensures accepted { result ≡ Ok true → Accepted tx.old.present number (view_of command.now) text.new.items tx.new }
+    ensures refused { result ≡ Ok false → Declined tx.old.present number (view_of command.now) text.new.items }
+{
+    match perform(alloc, tx, command) {
+        Ok(answer) => {
+            write_reply(alloc, number, answer, text)?;
+            Ok(true)
+        }
+        Err(Fault::Refused(why)) => {
+            write_reply(alloc, number, Answer::Refused(why), text)?;
+            Ok(false)
+        }
+        Err(Fault::Memory) => Err(Memory),
+    }
+}

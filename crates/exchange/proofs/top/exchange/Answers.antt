@@ -1,0 +1,23 @@
+use Rattle.std.proofs.Common.{refl}
+use Rattle.exchange.proofs.Statuses.{RepliesToAll-done, TakesWithin-status, completes}
+use Rattle.exchange.specs.declared.words.Request.TheVariants.{Run}
+use Rattle.exchange.proofs.top.exchange.Goals as goal
+
+pub returns-in-Some-Run-clause-replies : goal.returns-in-Some-Run-clause-replies
+returns-in-Some-Run-clause-replies g c = λ input before left written is. RepliesToAll-done _ _ _ _ _ _ _ left written (c.run.ensures.done is)
+
+pub returns-in-Some-Run-clause-limit : goal.returns-in-Some-Run-clause-limit
+returns-in-Some-Run-clause-limit g c =
+    let e = c.run.ensures in
+    TakesWithin-status _ _ _ _ _ _ _ e.done e.ended e.passed e.broken e.memory e.never
+
+pub returns-in-Some-Run-clause-complete : goal.returns-in-Some-Run-clause-complete
+returns-in-Some-Run-clause-complete g c = λ run calm quiet told.
+    let e = c.run.ensures in
+    completes _ told.0 _ _ _ _ _ _ _ _ _ _ told.1 told.2 e.read_fault e.write_fault e.passed e.never calm quiet
+
+pub returns-in-None-clause-usage : goal.returns-in-None-clause-usage
+returns-in-None-clause-usage g c = (λ _ run. c.in-None.ensures.none Run run, λ _. refl)
+
+pub returns-in-None-clause-complete : goal.returns-in-None-clause-complete
+returns-in-None-clause-complete g c = λ run calm quiet told. absurd (c.in-None.ensures.none Run run)

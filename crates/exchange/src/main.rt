@@ -1,0 +1,58 @@
+//! The program: with the word `run` it answers the lines of standard input on standard output, exactly as a Uniswap v2
+//! ledger answers them.
+#![tactic(auto)]
+
+mod number;
+#[cfg(test)]
+mod tests;
+mod top;
+mod words;
+
+use amm_engine::Status;
+use amm_io::{StdSink, StdSource};
+use std::process::ExitCode;
+use std::{env, io};
+pub use top::exchange;
+
+/// The text for standard error, where a status has one.
+fn message(status: Status) -> Option<&'static str> {
+    match status {
+        Status::Done | Status::No => None,
+        Status::Usage => { Some("usage: exchange run | exchange check | exchange work SEED COUNT") }
+        Status::ReadFault => Some("exchange: read fault"),
+        Status::WriteFault => Some("exchange: write fault"),
+        Status::Memory => Some("exchange: out of memory"),
+        Status::InputLimit => Some("exchange: input too long"),
+    }
+}
+
+/// The words of the command line, without the program's name.
+fn words_of(rt: &HostRuntime) -> Result<Vec<String>, Status> {
+    match env::args(rt) {
+        Ok(words) => match words.skip(1).collect(rt.alloc()) {
+            Ok(words) => Ok(words),
+            Err(_) => Err(Status::Memory),
+        },
+        Err(error) if error.kind() == io::ErrorKind::OutOfMemory => Err(Status::Memory),
+        Err(_) => Err(Status::Usage),
+    }
+}
+
+fn status_of(rt: &HostRuntime) -> Status {
+    let words = match words_of(rt) {
+        Ok(words) => words,
+        Err(status) => return status,
+    };
+    let mut source = StdSource::new(rt.stdin());
+    let mut sink = StdSink::new(rt.stdout());
+    exchange(rt.alloc(), words.as_slice(), &mut source, &mut sink)
+}
+
+fn main(rt: HostRuntime) -> ExitCode {
+    let status = status_of(&rt);
+    if let Some(text) = message(status) {
+        // Where standard error takes no text, the status still tells.
+        let _ = rt.eprintln(text);
+    }
+    ExitCode::from(status.code())
+}

@@ -1,0 +1,76 @@
+// The top call.
+ghost use Rattle.std.specs.Prelude.{◌≡◌, ◌≢◌, ◌≤◌, ◌⊎◌, ◌↔◌, ℕ, List, Some, length};
+ghost use Rattle.amm_io.specs.Causes.{HasCause, Rose};
+ghost use Rattle.amm_io.specs.Traffic.{TakesWithin};
+ghost use Rattle.amm_model.specs.Ledger.{Ledger, opening_ledger};
+ghost use Rattle.amm_engine.specs.Service.{ServesAll, ServesEnded, ServesToLimit, BreaksOff, LacksMemory};
+ghost use Rattle.exchange.specs.declared.words.Request.TheVariants.{Run};
+ghost use Rattle.exchange.specs.Words.{Asks};
+ghost use Rattle.exchange.specs.Headline.{RepliesToAll};
+
+use crate::words::{Request, request_of};
+use amm_engine::{Engine, Status};
+use amm_io::{Sink, Source};
+use std::alloc::Global;
+
+/// Does all that the program does: with the one word `run` it answers the lines of the source on the sink.
+pub fn exchange<S: Source, K: Sink>(
+    alloc: Global,
+    words: &[String],
+    source: &mut S,
+    sink: &mut K,
+) -> Status
+    ensures replies { (input before : List ℕ) → S.left source.old ≡ Some input → K.written sink.old ≡ Some before →
+        result ≡ Status.Done → RepliesToAll input before (S.left source.new) (K.written sink.new) }
+
+    // Only a run is built so far.
+    ensures usage { (result ≡ Status.Usage) ↔ (Asks words.now Run → ⊥) }
+    ensures untouched { result ≡ Status.Usage → (source.new ≡ source.old) × (sink.new ≡ sink.old) }
+    ensures never { result ≢ Status.No }
+
+    ensures read_fault { HasCause (S.faults source.old) (S.faults source.new) (result ≡ Status.ReadFault) }
+    ensures write_fault { HasCause (K.faults sink.old) (K.faults sink.new) (result ≡ Status.WriteFault) }
+    ensures limit { TakesWithin 1073741824 (S.left source.old) (S.left source.new)
+        (result ≡ Status.InputLimit) ((result ≡ Status.WriteFault) ⊎ (result ≡ Status.Memory)) }
+
+    ensures ended { result ≡ Status.ReadFault → (final : Ledger) ×
+        ServesEnded 1073741824 (S.left source.old) (S.left source.new) (K.written sink.old) (K.written sink.new) opening_ledger final }
+    ensures passed { result ≡ Status.InputLimit → (final : Ledger) ×
+        ServesToLimit 1073741824 (S.left source.old) (S.left source.new) (K.written sink.old) (K.written sink.new) opening_ledger final }
+    ensures broken { result ≡ Status.WriteFault → (final : Ledger) ×
+        BreaksOff 1073741824 (S.left source.old) (S.left source.new) (K.written sink.old) (K.written sink.new) opening_ledger final }
+    ensures memory { result ≡ Status.Memory → (final : Ledger) ×
+        LacksMemory 1073741824 (S.left source.old) (S.left source.new) (K.written sink.old) (K.written sink.new) opening_ledger final }
+
+    // With no fault, an input within its limit is answered to its end, unless memory runs out.
+    ensures complete { Asks words.now Run → (Rose (S.faults source.old) (S.faults source.new) → ⊥) → (Rose (K.faults sink.old) (K.faults sink.new) → ⊥) →
+        ((input : List ℕ) × (S.left source.old ≡ Some input) × (length input ≤ 1073741824)) → (result ≡ Status.Done) ⊎ (result ≡ Status.Memory) }
+{
+    match request_of(words) {
+        Some(Request::Run) => run(alloc, source, sink),
+        Some(Request::Check | Request::Work { .. }) => Status::Usage,
+        None => Status::Usage,
+    }
+}
+
+/// Answers the lines of the source from the opening ledger on.
+fn run<S: Source, K: Sink>(alloc: Global, source: &mut S, sink: &mut K) -> Status
+    ensures done { result ≡ Status.Done → (final : Ledger) ×
+        ServesAll 1073741824 (S.left source.old) (S.left source.new) (K.written sink.old) (K.written sink.new) opening_ledger final }
+    ensures ended { result ≡ Status.ReadFault → (final : Ledger) ×
+        ServesEnded 1073741824 (S.left source.old) (S.left source.new) (K.written sink.old) (K.written sink.new) opening_ledger final }
+    ensures passed { result ≡ Status.InputLimit → (final : Ledger) ×
+        ServesToLimit 1073741824 (S.left source.old) (S.left source.new) (K.written sink.old) (K.written sink.new) opening_ledger final }
+    ensures broken { result ≡ Status.WriteFault → (final : Ledger) ×
+        BreaksOff 1073741824 (S.left source.old) (S.left source.new) (K.written sink.old) (K.written sink.new) opening_ledger final }
+    ensures memory { result ≡ Status.Memory → (final : Ledger) ×
+        LacksMemory 1073741824 (S.left source.old) (S.left source.new) (K.written sink.old) (K.written sink.new) opening_ledger final }
+    ensures never { (result ≢ Status.No) × (result ≢ Status.Usage) }
+    ensures read_fault { HasCause (S.faults source.old) (S.faults source.new) (result ≡ Status.ReadFault) }
+    ensures write_fault { HasCause (K.faults sink.old) (K.faults sink.new) (result ≡ Status.WriteFault) }
+{
+    let Ok(mut engine) = Engine::new(alloc) else {
+        return Status::Memory;
+    };
+    engine.serve(alloc, source, sink)
+}
