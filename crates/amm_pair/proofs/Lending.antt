@@ -1,5 +1,5 @@
 -- What an accepted loan, its return and a swap leave.
-use Rattle.std.proofs.Common.{inl, inr, ◌≡◌, ◌≢◌, ◌≤◌, ◌-◌, ◌*◌, ℕ, nat_le, ◌==◌, ◌&&◌, ◌||◌, not, Bool, true, false, List, Option, Some, None, IsSome, Ok, refl, sym, ap, ◌∙◌, subst, arith}
+use Rattle.std.proofs.Common.{inl, inr, ◌≡◌, ◌≤◌, ◌-◌, ◌*◌, ℕ, nat_le, ◌==◌, ◌&&◌, ◌||◌, not, Bool, true, false, List, Option, Some, None, IsSome, Ok, refl, sym, ap, ◌∙◌, subst, arith}
 use Rattle.std.proofs.lemmas.Bool.Decides.{nat_tests}
 use Rattle.amm_names.specs.declared.holder.Holder.{Holder}
 use Rattle.amm_names.specs.declared.holder.Holder.TheVariants as holders
@@ -7,7 +7,7 @@ use Rattle.amm_names.specs.declared.holder.Asset.TheVariants as assets
 use Rattle.amm_model.specs.declared.pair.PairRecord.{PairRecord}
 use Rattle.amm_model.specs.declared.pair.SwapReceipt.{SwapReceipt}
 use Rattle.amm_model.specs.declared.fault.Refusal.TheVariants as code
-use Rattle.amm_names.specs.Pools.{pool_token0, pool_token1, pool_fee}
+use Rattle.amm_names.specs.Pools.{pool_fee}
 use Rattle.amm_model.specs.Swap.{admits}
 use Rattle.amm_model.specs.Ledger.{Ledger, Made, Pairs, pair_of, set_pair, with_pair, transfer}
 use Rattle.amm_model.specs.Pools.{asset0, asset1, held0, held1, supply, Terms}
