@@ -19,3 +19,4 @@ pub mod Forms
 pub mod Reading
 pub mod Bound
 pub mod Legs
+pub mod ReplyText
