@@ -1,2 +1,4 @@
+pub mod Fair
+pub mod Fitting
 pub mod Steps
 pub mod Streaming

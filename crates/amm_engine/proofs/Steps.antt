@@ -9,13 +9,12 @@ use Rattle.amm_model.specs.declared.reply.Answer.{Answer}
 use Rattle.amm_model.specs.declared.reply.Answer.TheVariants.{Refused}
 use Rattle.amm_model.specs.CommandView.{CommandView}
 use Rattle.amm_model.specs.Ledger.{Ledger, Made, Outcome}
-use Rattle.amm_model.specs.Sound.{IsAtRest}
 use Rattle.amm_model.specs.Meaning.{outcome_of}
-use Rattle.amm_model.specs.Answers.{IsAnswered, left_by}
+use Rattle.amm_model.specs.Answers.{answered, left_by}
 use Rattle.amm_model.specs.Reading.{command_of_line}
 use Rattle.amm_model.specs.Runs.{Step, FairStep, one_reply}
 use Rattle.amm_model.specs.ReplyText.{reply_text}
-use Rattle.amm_model.proofs.Fair.{fair_long, fair_unread, fair_asked}
+use Rattle.amm_engine.proofs.Fair.{fair_long, fair_unread, fair_asked}
 use Rattle.amm_state.specs.Tx.{Progress}
 use Rattle.amm_engine.specs.Commands.{AnswersCommand, Accepted, Declined}
 use Rattle.amm_engine.specs.Service.{AnswersLine}
@@ -43,19 +42,17 @@ pub AnswersLine-unread : (old : Ledger) (number : ℕ) (bytes : List ℕ) (why :
     → text ≡ reply_text (record { line = number; answer = Refused why }) → AnswersLine old number (Whole bytes) text old
 AnswersLine-unread old number bytes why text read is = one_line old number (Whole bytes) (Refused why) text old (fair_unread old number bytes why read) is
 
-pub AnswersLine-asked : (old : Ledger) (number : ℕ) (bytes : List ℕ) (asked : CommandView) (text : List ℕ) (new : Ledger) → IsAtRest old → command_of_line bytes ≡ Ok asked
+pub AnswersLine-asked : (old : Ledger) (number : ℕ) (bytes : List ℕ) (asked : CommandView) (text : List ℕ) (new : Ledger) → command_of_line bytes ≡ Ok asked
     → AnswersCommand old number asked text new → AnswersLine old number (Whole bytes) text new
-AnswersLine-asked old number bytes asked text new rest read a =
+AnswersLine-asked old number bytes asked text new read a =
     subst (λ (l : Ledger). AnswersLine old number (Whole bytes) text l) (sym a.left)
-    (one_line old number (Whole bytes) a.answer text (left_by old (outcome_of old asked)) (fair_asked old number bytes asked a.answer rest read a.answered) a.is)
+    (one_line old number (Whole bytes) (answered (outcome_of old asked)) text (left_by old (outcome_of old asked)) (fair_asked old number bytes asked read) a.is)
 
 -- a command that was accepted, and whose ledger is kept
 pub AnswersCommand-kept : (old : Ledger) (number : ℕ) (asked : CommandView) (text : List ℕ) (tx : Progress) (new : Ledger) → Accepted old number asked text tx → new ≡ tx.present
     → AnswersCommand old number asked text new
 AnswersCommand-kept old number asked text tx new a is = record {
-  answer = a.answer;
-  answered = subst (λ (o : Outcome Answer). IsAnswered o a.answer) (sym a.gives) refl;
-  is = a.is;
+  is = a.is ∙ ap (λ (o : Outcome Answer). reply_text (record { line = number; answer = answered o })) (sym a.gives);
   left = is ∙ ap (left_by old) (sym a.gives);
 }
 
@@ -63,9 +60,7 @@ AnswersCommand-kept old number asked text tx new a is = record {
 pub AnswersCommand-refused : (old : Ledger) (number : ℕ) (asked : CommandView) (text : List ℕ) (new : Ledger) → Declined old number asked text → new ≡ old
     → AnswersCommand old number asked text new
 AnswersCommand-refused old number asked text new d is = record {
-  answer = Refused d.why;
-  answered = subst (λ (o : Outcome Answer). IsAnswered o (Refused d.why)) (sym d.gives) refl;
-  is = d.is;
+  is = d.is ∙ ap (λ (o : Outcome Answer). reply_text (record { line = number; answer = answered o })) (sym d.gives);
   left = is ∙ ap (left_by old) (sym d.gives);
 }
 

@@ -7,16 +7,14 @@ use Rattle.amm_model.specs.CommandView.{CommandView}
 use Rattle.amm_model.specs.Ledger.{Ledger}
 use Rattle.amm_model.specs.Sound.{IsAtRest}
 use Rattle.amm_model.specs.Meaning.{outcome_of}
-use Rattle.amm_model.specs.Answers.{IsAnswered, left_by}
+use Rattle.amm_model.specs.Answers.{answered, left_by}
 use Rattle.amm_model.specs.ReplyText.{reply_text}
 use Rattle.amm_state.specs.Tx.{Progress}
 use Rattle.amm_state.specs.declared.mark.Mark.TheVariants.{Clean}
 
 -- the text is that of the reply to a command, which leaves the new ledger
 pub record AnswersCommand (old : Ledger) (number : ℕ) (asked : CommandView) (text : List ℕ) (new : Ledger) : Type 0 where
-  pub answer : Answer
-  pub answered : IsAnswered (outcome_of old asked) answer
-  pub is : text ≡ reply_text (record { line = number; answer = answer })
+  pub is : text ≡ reply_text (record { line = number; answer = answered (outcome_of old asked) })
   pub left : new ≡ left_by old (outcome_of old asked)
 
 -- the command was accepted, and the text is that of its reply

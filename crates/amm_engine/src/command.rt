@@ -1,24 +1,31 @@
 //! What each command does to the ledger, and what it answers.
 ghost use Rattle.std.specs.Prelude.{◌≡◌};
-ghost use Rattle.amm_state.specs.declared.mark.Mark.{Mark};
+ghost use Rattle.amm_model.specs.CommandView.{view_of, balance as ask_balance, fee_to as ask_fee_to, pool as ask_pool, setter as ask_setter, time as ask_time, total as ask_total};
+ghost use Rattle.amm_model.specs.Fits.{Fits};
+ghost use Rattle.amm_model.specs.Meaning.{deposit as deposit_in, known as known_in, outcome_of, withdraw as withdraw_in};
+ghost use Rattle.amm_model.specs.Sound.{IsSound};
 ghost use Rattle.amm_state.specs.Tx.{Meets};
-ghost use Rattle.amm_model.specs.CommandView.{view_of, move_of_step, total as total_asked, balance as balance_asked, time as time_asked};
-ghost use Rattle.amm_model.specs.Meaning.{known as known_in, send as sent, meaning, deposit as deposited, withdraw as withdrawn, outcome_of};
 
-use amm_model::{Answer, Asset, Command, Fault, Holder, Refusal, Step, TokenName, UserName};
-use amm_state::{Book, Tx};
+use crate::step::act;
+use amm_model::{Answer, Asset, Command, Fault, Holder, PoolName, Refusal, TokenName, UserName};
+use amm_state::{Book, Mark, Tx};
 use std::alloc::Global;
 
 /// Does what a command asks for. A kind that is not answered yet is refused.
 #[tactic(auto, unfolding(amm_model::specs::Meaning::outcome_of))]
 pub(crate) fn perform(alloc: Global, tx: &mut Tx, command: &Command) -> Result<Answer, Fault>
     requires clean { tx.old.mark ≡ Mark.Clean }
+    requires sound { IsSound tx.old.present }
+    requires fits { Fits (view_of command.now) }
     ensures meets { Meets tx.old tx.new result (outcome_of tx.old.present (view_of command.now)) }
 {
     match command {
         Command::Deposit { user, token, n } => deposit(alloc, tx, user, token, *n),
         Command::Withdraw { user, token, n } => withdraw(alloc, tx, user, token, *n),
         Command::Time { n } => time(alloc, tx, *n),
+        Command::FeeTo { actor, to } => fee_to(alloc, tx, actor, to),
+        Command::Setter { actor, to } => setter(alloc, tx, actor, to),
+        Command::Pool { pool } => pool_record(tx, pool),
         Command::Balance { asset, holder } => balance(tx, asset, holder),
         Command::Total { asset } => total(tx, asset),
         Command::Act { actor, step } => act(alloc, tx, actor, step),
@@ -28,7 +35,7 @@ pub(crate) fn perform(alloc: Global, tx: &mut Tx, command: &Command) -> Result<A
 
 /// Whether the asset can be spoken of: a listed token, or the shares of a pool that has a pair.
 #[tactic(auto, unfolding(amm_model::specs::Meaning::known))]
-fn known(book: &Book, asset: &Asset) -> Result<(), Refusal>
+pub(crate) fn known(book: &Book, asset: &Asset) -> Result<(), Refusal>
     ensures { result ≡ known_in book.now.ledger asset.now }
 {
     match asset {
@@ -47,7 +54,7 @@ fn deposit(
     n: u64,
 ) -> Result<Answer, Fault>
     requires clean { tx.old.mark ≡ Mark.Clean }
-    ensures meets { Meets tx.old tx.new result (deposited tx.old.present user.now token.now n) }
+    ensures meets { Meets tx.old tx.new result (deposit_in tx.old.present user.now token.now n) }
 {
     let asset = Asset::Token(*token);
     let holder = Holder::User(*user);
@@ -69,7 +76,7 @@ fn withdraw(
     n: u64,
 ) -> Result<Answer, Fault>
     requires clean { tx.old.mark ≡ Mark.Clean }
-    ensures meets { Meets tx.old tx.new result (withdrawn tx.old.present user.now token.now n) }
+    ensures meets { Meets tx.old tx.new result (withdraw_in tx.old.present user.now token.now n) }
 {
     let asset = Asset::Token(*token);
     let holder = Holder::User(*user);
@@ -87,16 +94,55 @@ fn withdraw(
 #[tactic(auto, unfolding(amm_model::specs::Meaning::outcome_of))]
 fn time(alloc: Global, tx: &mut Tx, n: u64) -> Result<Answer, Fault>
     requires clean { tx.old.mark ≡ Mark.Clean }
-    ensures meets { Meets tx.old tx.new result (outcome_of tx.old.present (time_asked n)) }
+    ensures meets { Meets tx.old tx.new result (outcome_of tx.old.present (ask_time n)) }
 {
     tx.set_time(alloc, n)?;
     Ok(Answer::Time)
 }
 
 #[tactic(auto, unfolding(amm_model::specs::Meaning::outcome_of))]
+fn fee_to(alloc: Global, tx: &mut Tx, actor: &UserName, to: &Holder) -> Result<Answer, Fault>
+    requires clean { tx.old.mark ≡ Mark.Clean }
+    requires sound { IsSound tx.old.present }
+    ensures meets { Meets tx.old tx.new result (outcome_of tx.old.present (ask_fee_to actor.now to.now)) }
+{
+    amm_factory::set_fee_to(alloc, tx, actor, to)?;
+    Ok(Answer::FeeTo)
+}
+
+#[tactic(auto, unfolding(amm_model::specs::Meaning::outcome_of))]
+fn setter(alloc: Global, tx: &mut Tx, actor: &UserName, to: &UserName) -> Result<Answer, Fault>
+    requires clean { tx.old.mark ≡ Mark.Clean }
+    requires sound { IsSound tx.old.present }
+    ensures meets { Meets tx.old tx.new result (outcome_of tx.old.present (ask_setter actor.now to.now)) }
+{
+    amm_factory::set_setter(alloc, tx, actor, to)?;
+    Ok(Answer::Setter)
+}
+
+/// The record of a pair, what its pool holds of the two tokens, and its shares.
+#[tactic(auto, unfolding(amm_model::specs::Meaning::outcome_of))]
+fn pool_record(tx: &mut Tx, pool: &PoolName) -> Result<Answer, Fault>
+    requires clean { tx.old.mark ≡ Mark.Clean }
+    ensures meets { Meets tx.old tx.new result (outcome_of tx.old.present (ask_pool pool.now)) }
+{
+    let book = tx.book();
+    let Some(pair) = book.pair(pool) else {
+        return Err(tx.refuse(Refusal::NoPair));
+    };
+    let holder = Holder::Pool(*pool);
+    Ok(Answer::Pool {
+        pair: *pair,
+        b0: book.balance(&Asset::Token(*pool.token0()), &holder),
+        b1: book.balance(&Asset::Token(*pool.token1()), &holder),
+        supply: book.total(&Asset::Share(*pool)),
+    })
+}
+
+#[tactic(auto, unfolding(amm_model::specs::Meaning::outcome_of))]
 fn balance(tx: &mut Tx, asset: &Asset, holder: &Holder) -> Result<Answer, Fault>
     requires clean { tx.old.mark ≡ Mark.Clean }
-    ensures meets { Meets tx.old tx.new result (outcome_of tx.old.present (balance_asked asset.now holder.now)) }
+    ensures meets { Meets tx.old tx.new result (outcome_of tx.old.present (ask_balance asset.now holder.now)) }
 {
     if let Err(why) = known(tx.book(), asset) {
         return Err(tx.refuse(why));
@@ -109,7 +155,7 @@ fn balance(tx: &mut Tx, asset: &Asset, holder: &Holder) -> Result<Answer, Fault>
 #[tactic(auto, unfolding(amm_model::specs::Meaning::outcome_of))]
 fn total(tx: &mut Tx, asset: &Asset) -> Result<Answer, Fault>
     requires clean { tx.old.mark ≡ Mark.Clean }
-    ensures meets { Meets tx.old tx.new result (outcome_of tx.old.present (total_asked asset.now)) }
+    ensures meets { Meets tx.old tx.new result (outcome_of tx.old.present (ask_total asset.now)) }
 {
     if let Err(why) = known(tx.book(), asset) {
         return Err(tx.refuse(why));
@@ -117,35 +163,4 @@ fn total(tx: &mut Tx, asset: &Asset) -> Result<Answer, Fault>
     Ok(Answer::Total {
         n: tx.book().total(asset),
     })
-}
-
-/// Does one step of the actor. A kind that is not answered yet is refused.
-#[tactic(auto, unfolding(amm_model::specs::Meaning::meaning))]
-fn act(alloc: Global, tx: &mut Tx, actor: &UserName, step: &Step) -> Result<Answer, Fault>
-    requires clean { tx.old.mark ≡ Mark.Clean }
-    ensures meets { Meets tx.old tx.new result (meaning tx.old.present actor.now (move_of_step step.now)) }
-{
-    match step {
-        Step::Transfer { asset, to, n } => send(alloc, tx, actor, asset, to, *n),
-        _ => Err(tx.refuse(Refusal::BadCommand)),
-    }
-}
-
-#[tactic(auto, unfolding(amm_model::specs::Meaning::send))]
-fn send(
-    alloc: Global,
-    tx: &mut Tx,
-    actor: &UserName,
-    asset: &Asset,
-    to: &Holder,
-    n: u64,
-) -> Result<Answer, Fault>
-    requires clean { tx.old.mark ≡ Mark.Clean }
-    ensures meets { Meets tx.old tx.new result (sent tx.old.present actor.now asset.now to.now n) }
-{
-    if let Err(why) = known(tx.book(), asset) {
-        return Err(tx.refuse(why));
-    }
-    tx.move_units(alloc, asset, &Holder::User(*actor), to, n)?;
-    Ok(Answer::Transfer)
 }

@@ -7,13 +7,13 @@ ghost use Rattle.amm_model.specs.declared.line.Line.TheVariants.{Whole};
 ghost use Rattle.amm_model.specs.Ledger.{opening_ledger};
 ghost use Rattle.amm_model.specs.Sound.{IsAtRest};
 ghost use Rattle.amm_model.specs.CommandView.{view_of};
-ghost use Rattle.amm_model.specs.Answers.{IsTimely};
+ghost use Rattle.amm_model.specs.Fits.{Fits};
 ghost use Rattle.amm_engine.specs.Commands.{AnswersCommand};
 ghost use Rattle.amm_engine.specs.Service.{AnswersLine, ServesAll, ServesEnded, ServesToLimit, BreaksOff, LacksMemory};
 
 use crate::Status;
 use crate::line::{run, write_reply};
-use crate::standin::read_line;
+use amm_command::read_line;
 use amm_io::{IoEnd, Lines, Sink, Source, WriteEnd, write_all};
 use amm_model::{Answer, Command, Fault, Line, Memory, Refusal};
 use amm_state::{Book, State};
@@ -121,8 +121,7 @@ impl Engine {
         command: &Command,
         text: &mut Vec<u8>,
     ) -> Result<(), Memory>
-        requires timely { IsTimely (view_of command.now) }
-        ensures rest { IsAtRest self.old }
+        requires fits { Fits (view_of command.now) }
         ensures ok { OnOk result (AnswersCommand self.old number (view_of command.now) text.new.items self.new) }
         ensures err { OnErr result (self.new ≡ self.old) }
     {

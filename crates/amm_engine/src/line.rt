@@ -3,7 +3,7 @@ ghost use Rattle.std.specs.Prelude.{◌≡◌, Ok, true, false, OnOk, OnErr};
 ghost use Rattle.amm_state.specs.declared.mark.Mark.{Mark};
 ghost use Rattle.amm_model.specs.Sound.{IsAtRest};
 ghost use Rattle.amm_model.specs.CommandView.{view_of};
-ghost use Rattle.amm_model.specs.Answers.{IsTimely};
+ghost use Rattle.amm_model.specs.Fits.{Fits};
 ghost use Rattle.amm_model.specs.ReplyText.{reply_text};
 ghost use Rattle.amm_engine.specs.Commands.{AnswersCommand, Accepted, Declined};
 
@@ -41,8 +41,7 @@ pub(crate) fn run(
     command: &Command,
     text: &mut Vec<u8>,
 ) -> (State, Result<(), Memory>)
-    requires timely { IsTimely (view_of command.now) }
-    ensures rest { IsAtRest state }
+    requires fits { Fits (view_of command.now) }
     ensures ok { OnOk result.1 (AnswersCommand state number (view_of command.now) text.new.items result.0) }
     ensures err { OnErr result.1 (result.0 ≡ state) }
 {
@@ -64,7 +63,7 @@ fn try_command(
 ) -> Result<bool, Memory>
     requires clean { tx.old.mark ≡ Mark.Clean }
     requires rest { IsAtRest tx.old.present }
-    requires timely { IsTimely (view_of command.now) }
+    requires fits { Fits (view_of command.now) }
     ensures opening { tx.new.opening ≡ tx.old.opening }
     ensures accepted { result ≡ Ok true → Accepted tx.old.present number (view_of command.now) text.new.items tx.new }
     ensures refused { result ≡ Ok false → Declined tx.old.present number (view_of command.now) text.new.items }

@@ -1,4 +1,4 @@
-use Rattle.amm_model.proofs.Fair.{kept}
+use Rattle.amm_engine.proofs.Fair.{kept}
 use Rattle.amm_engine.proofs.line.try_command.Goals as goal
 
 pub returns-in_ok-write_reply-in-Ok-clause-accepted :
@@ -10,5 +10,5 @@ returns-in_ok-write_reply-in-Ok-clause-accepted c = λ _.
       gives = meets.gives;
       is = c.in_ok-write_reply-in-Ok.ensures;
       clean = meets.mark;
-      rest = (kept _ _ _ c.requires.rest c.requires.timely meets.gives).rest;
+      rest = (kept _ _ _ meets.gives).rest c.requires.rest c.requires.fits;
     }
