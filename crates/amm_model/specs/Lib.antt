@@ -21,3 +21,5 @@ pub mod Bound
 pub mod Legs
 pub mod Answers
 pub mod Later
+pub mod ReplyText
+pub mod Certificate
