@@ -20,3 +20,4 @@ pub mod Reading
 pub mod Bound
 pub mod Legs
 pub mod Answers
+pub mod Later
