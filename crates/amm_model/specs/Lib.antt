@@ -21,3 +21,4 @@ pub mod Bound
 pub mod Legs
 pub mod Answers
 pub mod Later
+pub mod Fits
