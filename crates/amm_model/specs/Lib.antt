@@ -23,3 +23,4 @@ pub mod Answers
 pub mod Later
 pub mod ReplyText
 pub mod Certificate
+pub mod Fits
