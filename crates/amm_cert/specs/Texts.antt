@@ -11,3 +11,8 @@ next_text d = 44 ∷ compact_text d
 abbrev pub values_text : List Data → List ℕ
 values_text [] = []
 values_text (d ∷ ds) = next_text d ++ values_text ds
+
+-- values with commas between them
+abbrev pub joined_text : List Data → List ℕ
+joined_text [] = []
+joined_text (d ∷ ds) = compact_text d ++ values_text ds

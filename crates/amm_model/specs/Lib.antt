@@ -22,4 +22,7 @@ pub mod Legs
 pub mod Answers
 pub mod ReplyText
 pub mod Runs
+pub mod Later
+pub mod ReplyText
+pub mod Certificate
 pub mod Fits

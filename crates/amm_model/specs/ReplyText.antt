@@ -6,6 +6,7 @@ use Rattle.amm_model.specs.declared.reply.Answer.{Answer}
 use Rattle.amm_model.specs.declared.reply.Answer.TheVariants as answers
 use Rattle.amm_model.specs.declared.reply.Reply.{Reply}
 use Rattle.amm_model.specs.Json.{whole, wide, list}
+use Rattle.amm_model.specs.Certificate.{prices_value, legs_value, certificate_value, IsWritable}
 use Rattle.amm_model.specs.Refusals.{refusal_number, refusal_word}
 
 -- what follows the word `ok`
@@ -30,9 +31,9 @@ accepted (answers.SwapIn amounts) = list (map whole amounts) ∷ []
 accepted (answers.SwapOut amounts) = list (map whole amounts) ∷ []
 accepted (answers.QuoteOut amounts) = list (map whole amounts) ∷ []
 accepted (answers.QuoteIn amounts) = list (map whole amounts) ∷ []
-accepted (answers.Split number quote) = []
+accepted (answers.Split number quote) = whole number ∷ whole quote.delivered ∷ wide quote.bound ∷ prices_value quote ∷ legs_value quote ∷ []
 accepted (answers.Settle delivered) = whole delivered ∷ []
-accepted (answers.Certificate quote) = []
+accepted (answers.Certificate quote) = certificate_value quote ∷ []
 accepted (answers.Pool pair b0 b1 supply) =
     whole pair.r0 ∷ whole pair.r1 ∷ whole b0 ∷ whole b1 ∷ whole supply ∷ wide pair.k_last ∷ whole pair.last ∷ wide pair.acc0 ∷ wide pair.acc1 ∷ []
 accepted (answers.Balance n) = whole n ∷ []
@@ -49,3 +50,9 @@ reply_value reply = list (whole reply.line ∷ verdict reply.answer)
 -- the compact text of a reply, and a newline
 unfoldable pub reply_text : Reply → List ℕ
 reply_text reply = compact_text (reply_value reply) ++ 10 ∷ []
+
+-- a quote in the answer can be written
+abbrev pub CanBeWritten : Answer → Type 0
+CanBeWritten (answers.Split number quote) = IsWritable quote
+CanBeWritten (answers.Certificate quote) = IsWritable quote
+CanBeWritten _ = Unit {0}

@@ -106,10 +106,6 @@ impl Book {
         }
     }
 
-    pub(crate) fn allocator(&self) -> Global {
-        *self.assets.allocator()
-    }
-
     /// The total of the asset and what the holder has of it, by one look-up each.
     pub(crate) fn account(&self, asset: &Asset, holder: &Holder) -> Account
         ensures total { result.total ≡ total self.now.ledger asset.now }
