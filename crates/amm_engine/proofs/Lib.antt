@@ -1,4 +1,4 @@
+pub mod StepLaws
 pub mod Fair
-pub mod Fitting
 pub mod Steps
 pub mod Streaming

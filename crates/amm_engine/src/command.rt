@@ -2,13 +2,13 @@
 ghost use Rattle.std.specs.Prelude.{◌≡◌};
 ghost use Rattle.amm_model.specs.CommandView.{view_of, balance as ask_balance, fee_to as ask_fee_to, pool as ask_pool, setter as ask_setter, time as ask_time, total as ask_total};
 ghost use Rattle.amm_model.specs.Fits.{Fits};
-ghost use Rattle.amm_model.specs.Meaning.{deposit as deposit_in, known as known_in, outcome_of, withdraw as withdraw_in};
+ghost use Rattle.amm_model.specs.Meaning.{deposit as deposit_in, outcome_of, withdraw as withdraw_in};
 ghost use Rattle.amm_model.specs.Sound.{IsSound};
 ghost use Rattle.amm_state.specs.Tx.{Meets};
 
-use crate::step::act;
+use crate::standin::{known, run_step};
 use amm_model::{Answer, Asset, Command, Fault, Holder, PoolName, Refusal, TokenName, UserName};
-use amm_state::{Book, Mark, Tx};
+use amm_state::{Mark, Tx};
 use std::alloc::Global;
 
 /// Does what a command asks for. A kind that is not answered yet is refused.
@@ -28,20 +28,8 @@ pub(crate) fn perform(alloc: Global, tx: &mut Tx, command: &Command) -> Result<A
         Command::Pool { pool } => pool_record(tx, pool),
         Command::Balance { asset, holder } => balance(tx, asset, holder),
         Command::Total { asset } => total(tx, asset),
-        Command::Act { actor, step } => act(alloc, tx, actor, step),
+        Command::Act { actor, step } => run_step(alloc, tx, actor, step),
         _ => Err(tx.refuse(Refusal::BadCommand)),
-    }
-}
-
-/// Whether the asset can be spoken of: a listed token, or the shares of a pool that has a pair.
-#[tactic(auto, unfolding(amm_model::specs::Meaning::known))]
-pub(crate) fn known(book: &Book, asset: &Asset) -> Result<(), Refusal>
-    ensures { result ≡ known_in book.now.ledger asset.now }
-{
-    match asset {
-        Asset::Token(token) if !book.has_token(token) => Err(Refusal::UnknownToken),
-        Asset::Share(pool) if book.pair(pool).is_none() => Err(Refusal::NoPair),
-        _ => Ok(()),
     }
 }
 

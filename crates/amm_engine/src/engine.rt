@@ -90,7 +90,7 @@ impl Engine {
                 text.clear();
                 Ok(())
             }
-            Line::Long => write_reply(alloc, number, Answer::Refused(Refusal::LongLine), text),
+            Line::Long => write_reply(text, number, Answer::Refused(Refusal::LongLine)),
             Line::Whole(bytes) => self.answer_whole(alloc, number, bytes.as_slice(), text),
         }
     }
@@ -108,7 +108,7 @@ impl Engine {
     {
         match read_line(alloc, bytes) {
             Ok(command) => self.answer_command(alloc, number, &command, text),
-            Err(Fault::Refused(why)) => write_reply(alloc, number, Answer::Refused(why), text),
+            Err(Fault::Refused(why)) => write_reply(text, number, Answer::Refused(why)),
             Err(Fault::Memory) => Err(Memory),
         }
     }

@@ -7,7 +7,6 @@ mod command;
 mod engine;
 mod line;
 mod standin;
-mod step;
 mod status;
 
 pub use engine::Engine;

@@ -4,32 +4,32 @@ ghost use Rattle.amm_state.specs.declared.mark.Mark.{Mark};
 ghost use Rattle.amm_model.specs.Sound.{IsAtRest};
 ghost use Rattle.amm_model.specs.CommandView.{view_of};
 ghost use Rattle.amm_model.specs.Fits.{Fits};
-ghost use Rattle.amm_model.specs.ReplyText.{reply_text};
+ghost use Rattle.amm_model.specs.ReplyText.{reply_text, CanBeWritten};
 ghost use Rattle.amm_engine.specs.Commands.{AnswersCommand, Accepted, Declined};
 
 use crate::command::perform;
-use crate::standin::write;
+use crate::standin::append;
 use amm_model::{Answer, Command, Fault, Memory, Reply};
 use amm_state::{State, Tx};
 use std::alloc::Global;
 
 /// Makes the text that of the reply.
 pub(crate) fn write_reply(
-    alloc: Global,
+    text: &mut Vec<u8>,
     number: u64,
     answer: Answer,
-    text: &mut Vec<u8>,
 ) -> Result<(), Memory>
+    requires { CanBeWritten answer }
     ensures { OnOk result (text.new.items ≡ reply_text (record { line = number; answer = answer })) }
 {
-    *text = write(
-        alloc,
+    text.clear();
+    append(
+        text,
         &Reply {
             line: number,
             answer,
         },
-    )?;
-    Ok(())
+    )
 }
 
 /// Does a command in a transaction of its own. The reply's text is made before the ledger is kept, and a refused command
@@ -70,11 +70,11 @@ fn try_command(
 {
     match perform(alloc, tx, command) {
         Ok(answer) => {
-            write_reply(alloc, number, answer, text)?;
+            write_reply(text, number, answer)?;
             Ok(true)
         }
         Err(Fault::Refused(why)) => {
-            write_reply(alloc, number, Answer::Refused(why), text)?;
+            write_reply(text, number, Answer::Refused(why))?;
             Ok(false)
         }
         Err(Fault::Memory) => Err(Memory),

@@ -23,6 +23,5 @@ pub mod Answers
 pub mod ReplyText
 pub mod Runs
 pub mod Later
-pub mod ReplyText
 pub mod Certificate
 pub mod Fits

@@ -1,6 +1,9 @@
 use Rattle.amm_engine.proofs.Fair.{kept}
 use Rattle.amm_engine.proofs.line.try_command.Goals as goal
 
+pub write_reply-requires : goal.write_reply-requires
+write_reply-requires c = (kept _ _ _ c.in-Ok.ensures.meets.gives).told.written
+
 pub returns-in_ok-write_reply-in-Ok-clause-accepted :
     goal.returns-in_ok-write_reply-in-Ok-clause-accepted
 returns-in_ok-write_reply-in-Ok-clause-accepted c = λ _.

@@ -1,9 +1,9 @@
-use Rattle.amm_engine.proofs.Fitting.{line_fits}
+use Rattle.amm_model.proofs.Fitting.{reads_fitting}
 use Rattle.amm_engine.proofs.Steps.{AnswersLine-asked, AnswersLine-unread, on_ok_by}
 use Rattle.amm_engine.proofs.engine.Engine.answer_whole.Goals as goal
 
 pub answer_command-requires : goal.answer_command-requires
-answer_command-requires c = record { fits = line_fits _ _ c.in-Ok.ensures }
+answer_command-requires c = record { fits = reads_fitting _ _ c.in-Ok.ensures }
 
 pub returns-in-Ok-clause-ok : goal.returns-in-Ok-clause-ok
 returns-in-Ok-clause-ok c = on_ok_by _ c.answer_command.ensures.ok (λ a. AnswersLine-asked _ _ _ _ _ _ c.in-Ok.ensures a)
