@@ -1,3 +1,4 @@
+pub mod Parts
 pub mod StepLaws
 pub mod Fair
 pub mod Steps

@@ -9,4 +9,6 @@ pub returns-in-Ok-clause-ok : goal.returns-in-Ok-clause-ok
 returns-in-Ok-clause-ok c = on_ok_by _ c.answer_command.ensures.ok (λ a. AnswersLine-asked _ _ _ _ _ _ c.in-Ok.ensures a)
 
 pub returns-in-Err-Refused-clause-ok : goal.returns-in-Err-Refused-clause-ok
-returns-in-Err-Refused-clause-ok c = on_ok_by _ c.write_reply.ensures (λ is. AnswersLine-unread _ _ _ _ _ c.in-Err-Refused.ensures is)
+returns-in-Err-Refused-clause-ok c =
+    let fails = rw c.in-Err-Refused.field-0-is at c.in-Err-Refused.ensures in
+    on_ok_by _ c.write_reply.ensures (λ is. AnswersLine-unread _ _ _ _ _ fails is)
