@@ -115,12 +115,12 @@ fn burn_at(alloc: Global, tx: &mut Tx, pool: &PoolName, to: &Holder) -> Result<B
     };
     let nobody = is_nobody(tx.book().fee_to());
     let fee = fee_due(tx.book(), pool, &pair);
-    let before = supply(tx.book(), pool) + fee;
-    if before == 0 {
+    let whole = supply(tx.book(), pool) + fee;
+    if whole == 0 {
         return Err(tx.refuse(Refusal::InsufficientLiquidityBurned));
     }
     let own = own_shares(tx.book(), pool);
-    let parts = parts_of(tx.book(), pool, before, fee);
+    let parts = parts_of(tx.book(), pool, whole, fee);
     if parts.amount0 == 0 || parts.amount1 == 0 {
         return Err(tx.refuse(Refusal::InsufficientLiquidityBurned));
     }
