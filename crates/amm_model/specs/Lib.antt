@@ -14,3 +14,13 @@ pub mod CommandView
 pub mod Factory
 pub mod Meaning
 pub mod Laws
+pub mod Json
+pub mod Forms
+pub mod Reading
+pub mod Bound
+pub mod Legs
+pub mod Answers
+pub mod Later
+pub mod ReplyText
+pub mod Certificate
+pub mod Fits

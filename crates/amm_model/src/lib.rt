@@ -9,7 +9,9 @@ mod line;
 mod list;
 mod observation;
 mod pair;
+mod parts;
 mod path;
+mod prices;
 mod problem;
 mod reply;
 mod route;
@@ -20,12 +22,13 @@ pub use byte_line::ByteLine;
 pub use command::{AddWant, Command, RemoveWant, Step};
 pub use fault::{Fault, Refusal};
 pub use line::Line;
-pub use list::LegList;
+pub use list::{LegList, ProblemPoolList};
 pub use observation::Observation;
 pub use pair::{
     AddReceipt, BurnReceipt, MintReceipt, PairRecord, RemoveReceipt, SkimReceipt, SwapReceipt,
 };
 pub use path::{FeeList, RoutePath, TokenList};
-pub use problem::{Prices, Problem, ProblemPool};
+pub use prices::Prices;
+pub use problem::{Problem, ProblemPool, TokenPlaces};
 pub use reply::{Answer, Reply};
 pub use route::{Leg, Quote, Route};

@@ -1,5 +1,9 @@
 //! Lists inside the public types, each seen as its items.
-use crate::Leg;
+ghost use Rattle.std.specs.Prelude.{◌≡◌, IfOk};
+
+use crate::{Leg, ProblemPool};
+use amm_names::Memory;
+use std::alloc::Global;
 use std::marker::Model;
 
 /// The legs of a route.
@@ -18,8 +22,6 @@ impl Model for LegList {
 }
 
 impl LegList {
-    ghost use Rattle.std.specs.Prelude.{◌≡◌};
-
     pub fn from_vec(list: Vec<Leg>) -> LegList
         ensures { result ≡ list.items }
     {
@@ -30,5 +32,52 @@ impl LegList {
         ensures { result.now ≡ self.now }
     {
         &self.list
+    }
+
+    /// An equal list.
+    pub fn copy(&self, alloc: Global) -> Result<LegList, Memory>
+        ensures { IfOk result (λ list. list ≡ self.now) }
+    {
+        Ok(LegList {
+            list: Vec::from_slice(alloc, &self.list)?,
+        })
+    }
+}
+
+/// The pools of a problem.
+#[derive(Drop)]
+pub struct ProblemPoolList {
+    list: Vec<ProblemPool>,
+}
+
+impl Model for ProblemPoolList {
+    ghost use Rattle.std.specs.Prelude.{List};
+    ghost use Rattle.amm_model.specs.declared.problem.ProblemPool.{ProblemPool};
+
+    ghost Value = { List ProblemPool };
+
+    ghost view = { λ a. a.list.items };
+}
+
+impl ProblemPoolList {
+    pub fn from_vec(list: Vec<ProblemPool>) -> ProblemPoolList
+        ensures { result ≡ list.items }
+    {
+        ProblemPoolList { list }
+    }
+
+    pub fn as_slice(&self) -> &[ProblemPool]
+        ensures { result.now ≡ self.now }
+    {
+        &self.list
+    }
+
+    /// An equal list.
+    pub fn copy(&self, alloc: Global) -> Result<ProblemPoolList, Memory>
+        ensures { IfOk result (λ list. list ≡ self.now) }
+    {
+        Ok(ProblemPoolList {
+            list: Vec::from_slice(alloc, &self.list)?,
+        })
     }
 }

@@ -1,10 +1,16 @@
 //! Routes leg by leg, and quotes.
-use crate::{LegList, Prices, Problem};
+ghost use Rattle.std.specs.Prelude.{◌≡◌, IfOk};
 
-/// A trade of a route: what goes into a pool, named by its place in the problem, and what comes out.
+use crate::{LegList, Prices, Problem};
+use amm_names::Memory;
+use std::alloc::Global;
+
+/// A trade of a route leg by leg: an input into a pool, named by its place in the problem, and
+/// the output of the other token.
 #[derive(Clone, Copy, Debug, PartialEq, Eq)]
 pub struct Leg {
     pub pool: u32,
+    /// Whether the pool's token 0 goes in.
     pub zero_in: bool,
     pub input: u64,
     pub output: u64,
@@ -16,6 +22,17 @@ pub struct Route {
     pub legs: LegList,
 }
 
+impl Route {
+    /// An equal route.
+    pub fn copy(&self, alloc: Global) -> Result<Route, Memory>
+        ensures { IfOk result (λ route. route ≡ self.now) }
+    {
+        Ok(Route {
+            legs: self.legs.copy(alloc)?,
+        })
+    }
+}
+
 /// A kept answer to a split: the problem, prices, a route, what it delivers, and the bound at the prices.
 #[derive(Drop)]
 pub struct Quote {
@@ -24,4 +41,19 @@ pub struct Quote {
     pub route: Route,
     pub delivered: u64,
     pub bound: u128,
+}
+
+impl Quote {
+    /// An equal quote.
+    pub fn copy(&self, alloc: Global) -> Result<Quote, Memory>
+        ensures { IfOk result (λ quote. quote ≡ self.now) }
+    {
+        Ok(Quote {
+            problem: self.problem.copy(alloc)?,
+            prices: self.prices.copy(alloc)?,
+            route: self.route.copy(alloc)?,
+            delivered: self.delivered,
+            bound: self.bound,
+        })
+    }
 }

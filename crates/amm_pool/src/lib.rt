@@ -5,6 +5,8 @@
 //! reserves below 2^48, balances and amounts below 2^52. None takes memory and none refuses.
 #![tactic(auto)]
 
+mod laws;
+
 ghost use Rattle.std.specs.Prelude.{◌≡◌, ◌+◌, ◌-◌, ◌*◌, ◌/◌, ◌^◌, ◌<◌, ◌≤◌, ◌↔◌, IsTrue};
 ghost use Rattle.amm_model.specs.Root.{IsRoot, root_of};
 ghost use Rattle.amm_model.specs.Swap.{Admits, IsFee, IsGreatestOutput, IsLeastInputOrOneMore, admits as admits_of, amount_in_of, amount_out_of, input_weight, quote_of};
@@ -12,6 +14,7 @@ ghost use Rattle.amm_model.specs.Formulas.{elapsed as elapsed_of, grown as grown
 
 use amm_model::PairRecord;
 use amm_num::{mul_div, root};
+pub use laws::{fee_keeps_backing, shares_keep_product, swap_keeps_product};
 
 // Times are kept modulo 2^32.
 const SECONDS: u64 = 0x1_0000_0000;
@@ -176,32 +179,28 @@ mod tests {
 
     #[test]
     fn outputs_for_inputs(rt: HostRuntime) {
-        for (fee, x, rin, rout, y) in [
-            (3, 10000, 1000000, 4000000, 39486),
-            (3, 100000, 1000000, 1000000, 90661),
-            (3, 90661, 1000000, 1000000, 82896),
-            (3, 68750, 1000000, 1000000, 64146),
-            (3, 31250, 1000000, 1000000, 30214),
-            (3, 30214, 1000000, 1000000, 29242),
-            (3, 200000, 1000000, 1000000, 166249),
-            (3, 166249, 1000000, 1000000, 142183),
-            (3, 1, 1000000, 1000000, 0),
-            (1, 10000, 1000000, 4000000, 39564),
-            (10, 10000, 1000000, 4000000, 39211),
+        for (x, rin, rout, y) in [
+            (10000, 1000000, 4000000, 39486),
+            (100000, 1000000, 1000000, 90661),
+            (90661, 1000000, 1000000, 82896),
+            (68750, 1000000, 1000000, 64146),
+            (31250, 1000000, 1000000, 30214),
+            (30214, 1000000, 1000000, 29242),
+            (200000, 1000000, 1000000, 166249),
+            (166249, 1000000, 1000000, 142183),
+            (1, 1000000, 1000000, 0),
         ] {
-            assert_eq!(rt; amount_out(fee, x, rin, rout), y);
+            assert_eq!(rt; amount_out(3, x, rin, rout), y);
         }
+        assert_eq!(rt; amount_out(1, 10000, 1000000, 4000000), 39564);
+        assert_eq!(rt; amount_out(10, 10000, 1000000, 4000000), 39211);
     }
 
     #[test]
     fn inputs_for_outputs(rt: HostRuntime) {
-        for (fee, y, rin, rout, x) in [
-            (3, 39486, 1000000, 4000000, 10000),
-            (3, 1000, 997000, 2000, 1000001),
-            (10, 39211, 1000000, 4000000, 10000),
-        ] {
-            assert_eq!(rt; amount_in(fee, y, rin, rout), x);
-        }
+        assert_eq!(rt; amount_in(3, 39486, 1000000, 4000000), 10000);
+        assert_eq!(rt; amount_in(3, 1000, 997000, 2000), 1000001);
+        assert_eq!(rt; amount_in(10, 39211, 1000000, 4000000), 10000);
         assert_eq!(rt; quote(3000, 4004000, 1001000), 750);
     }
 

@@ -1,8 +1,9 @@
-ghost use Rattle.std.specs.Prelude.{◌≡◌};
+ghost use Rattle.std.specs.Prelude.{◌≡◌, OnOk};
 ghost use Rattle.amm_state.specs.declared.mark.Mark.{Mark};
 
-use crate::{State, Tx};
-use amm_names::{Asset, Holder, TokenName, UserName};
+use crate::{Mark, State, Tx};
+use amm_model::{Fault, Refusal};
+use amm_names::{Asset, Holder, PoolName, TokenName, UserName};
 use std::alloc::Global;
 use std::test::Fail;
 
@@ -14,10 +15,17 @@ fn user(alloc: Global, i: u32) -> Result<Holder, Fail> {
     }
 }
 
-fn token(alloc: Global) -> Result<Asset, Fail> {
+fn token(alloc: Global) -> Result<TokenName, Fail> {
     match TokenName::read(alloc, b"T".as_slice()) {
-        Ok(Some(name)) => Ok(Asset::Token(name)),
+        Ok(Some(name)) => Ok(name),
         _ => Err("no token")?,
+    }
+}
+
+fn new_state(alloc: Global) -> Result<State, Fail> {
+    match State::new(alloc) {
+        Ok(state) => Ok(state),
+        Err(_) => Err("no memory")?,
     }
 }
 
@@ -46,16 +54,129 @@ fn fill(alloc: Global, tx: &mut Tx, asset: &Asset) -> Result<(), Fail>
 #[test]
 fn rolls_back_many_moves(rt: HostRuntime) -> Result<(), Fail> {
     let alloc = rt.alloc();
-    let asset = token(alloc)?;
-    let state = match State::new(alloc) {
-        Ok(state) => state,
-        Err(_) => return Err("no memory")?,
-    };
-    let mut tx = Tx::begin(state);
+    let asset = Asset::Token(token(alloc)?);
+    let mut tx = Tx::begin(new_state(alloc)?);
     let filled = fill(alloc, &mut tx, &asset);
     let total = tx.book().total(&asset);
     let state = tx.rollback();
     assert_eq!(&rt; total, 40000);
     assert_eq!(&rt; state.book().total(&asset), 0);
     filled
+}
+
+fn moves(alloc: Global, tx: &mut Tx, token: &TokenName, from: &Holder) -> Result<(), Fault>
+    requires { tx.old.mark ≡ Mark.Clean }
+{
+    let asset = Asset::Token(*token);
+    tx.list_token(alloc, token)?;
+    tx.issue(alloc, &asset, from, 10)?;
+    tx.move_units(alloc, &asset, from, &Holder::Zero, 4)?;
+    tx.retire(alloc, &asset, from, 1)
+}
+
+fn sets(alloc: Global, tx: &mut Tx, to: &UserName) -> Result<(), Fault>
+    requires { tx.old.mark ≡ Mark.Clean }
+{
+    tx.set_fee_to(alloc, &Holder::User(*to))?;
+    tx.set_setter(alloc, to)?;
+    tx.set_time(alloc, 7)
+}
+
+fn adds_pair(alloc: Global, tx: &mut Tx, pool: &PoolName) -> Result<(), Fault>
+    requires { tx.old.mark ≡ Mark.Clean }
+    ensures { OnOk result (tx.new.mark ≡ Mark.Clean) }
+{
+    match tx.book().pair(pool) {
+        Some(_) => Ok(()),
+        None => tx.add_pair(alloc, pool),
+    }
+}
+
+fn locks_pair(alloc: Global, tx: &mut Tx, pool: &PoolName) -> Result<(), Fault>
+    requires { tx.old.mark ≡ Mark.Clean }
+{
+    match tx.book().pair(pool) {
+        Some(pair) => {
+            let mut locked = *pair;
+            locked.locked = true;
+            tx.set_pair(alloc, pool, locked)
+        }
+        None => Ok(()),
+    }
+}
+
+fn writes_pair(alloc: Global, tx: &mut Tx, pool: &PoolName) -> Result<(), Fault>
+    requires { tx.old.mark ≡ Mark.Clean }
+{
+    adds_pair(alloc, tx, pool)?;
+    locks_pair(alloc, tx, pool)
+}
+
+#[test]
+fn takes_moves_back(rt: HostRuntime) -> Result<(), Fail> {
+    let alloc = rt.alloc();
+    let token = token(alloc)?;
+    let asset = Asset::Token(token);
+    let from = user(alloc, 1)?;
+    let mut tx = Tx::begin(new_state(alloc)?);
+    assert!(&rt; moves(alloc, &mut tx, &token, &from).is_ok());
+    assert!(&rt; tx.book().has_token(&token));
+    assert_eq!(&rt; tx.book().token_count(), 1);
+    assert_eq!(&rt; tx.book().total(&asset), 9);
+    assert_eq!(&rt; tx.book().balance(&asset, &from), 5);
+    let state = tx.rollback();
+    assert_eq!(&rt; state.book().token_count(), 0);
+    assert_eq!(&rt; state.book().total(&asset), 0);
+    Ok(())
+}
+
+#[test]
+fn takes_settings_back(rt: HostRuntime) -> Result<(), Fail> {
+    let alloc = rt.alloc();
+    let bob = match UserName::read(alloc, b"bob".as_slice()) {
+        Ok(Some(name)) => name,
+        _ => return Err("no user")?,
+    };
+    let mut tx = Tx::begin(new_state(alloc)?);
+    assert!(&rt; sets(alloc, &mut tx, &bob).is_ok());
+    assert!(&rt; *tx.book().fee_to() == Holder::User(bob));
+    assert!(&rt; *tx.book().setter() == bob);
+    assert_eq!(&rt; tx.book().time(), 7);
+    let state = tx.rollback();
+    assert!(&rt; *state.book().fee_to() == Holder::Zero);
+    assert!(&rt; state.book().setter().as_bytes() == b"admin".as_slice());
+    assert_eq!(&rt; state.book().time(), 0);
+    Ok(())
+}
+
+#[test]
+fn takes_pairs_back(rt: HostRuntime) -> Result<(), Fail> {
+    let alloc = rt.alloc();
+    let pool = match PoolName::read(alloc, b"A/B".as_slice()) {
+        Ok(Some(name)) => name,
+        _ => return Err("no pool")?,
+    };
+    let mut tx = Tx::begin(new_state(alloc)?);
+    assert!(&rt; writes_pair(alloc, &mut tx, &pool).is_ok());
+    assert_eq!(&rt; tx.book().pair_count(), 1);
+    assert!(&rt; tx.book().pair_at(0).is_some());
+    assert!(&rt; tx.book().any_locked());
+    let state = tx.rollback();
+    assert_eq!(&rt; state.book().pair_count(), 0);
+    Ok(())
+}
+
+#[test]
+fn marks_a_fault(rt: HostRuntime) -> Result<(), Fail> {
+    let alloc = rt.alloc();
+    let mut tx = Tx::begin(Tx::begin(new_state(alloc)?).commit());
+    tx.refuse(Refusal::Funds);
+    let refused = tx.mark();
+    let mut tx = Tx::begin(tx.rollback());
+    tx.lack();
+    let lacking = tx.mark();
+    let _state = tx.rollback();
+    assert!(&rt; refused == Mark::Refused(Refusal::Funds));
+    assert!(&rt; lacking == Mark::NoMemory);
+    Ok(())
 }

@@ -1,0 +1,159 @@
+//! What pools are worth to a route at given prices, and the bound that no route passes.
+//!
+//! `bound` is proved to be at least what every route over the problem's pools delivers that uses
+//! each pool at most once, whatever its trades and their order. `no_route_beats` says the same of
+//! all problems, prices and routes, and `legs_are_a_route` that a route leg by leg is such a route.
+#![tactic(auto)]
+
+ghost use Rattle.std.specs.Prelude.{◌≡◌, ℕ, List, ◌+◌, ◌*◌, ◌/◌, ◌<◌, ◌≤◌, ◌^◌, length, slice_index, map, []};
+ghost use Rattle.amm_model.specs.Routing.{ArePrices, HasReserves, IsProblem, IsRoute, ProblemView, Trade, delivered_by, fee_of};
+ghost use Rattle.amm_model.specs.Legs.{AreLegs, after_legs, starting_with, trade_of};
+ghost use Rattle.amm_model.specs.declared.route.Leg as leg_view;
+ghost use Rattle.amm_model.specs.Swap.{IsFee};
+ghost use Rattle.amm_model.specs.Bound.{bound_of, margin as margin_of, worth_of};
+
+use amm_model::{Prices, Problem, ProblemPool, TokenPlaces};
+use amm_num::root;
+
+// Roots are taken of numbers with thirty more binary places.
+const SCALE: u128 = 0x4000_0000;
+
+/// The most that a route can gain from a pool with this fee and these reserves, at these prices of
+/// its tokens, in units of price. Reserves are 1 to 2^48-1, prices 1 to 2^40-1.
+pub fn worth(fee: u8, r0: u64, r1: u64, p0: u64, p1: u64) -> u128
+    requires fee { IsFee fee }
+    requires reserves { (1 ≤ r0) × (r0 < 2 ^ 48) × (1 ≤ r1) × (r1 < 2 ^ 48) }
+    requires prices { (1 ≤ p0) × (p0 < 2 ^ 40) × (1 ≤ p1) × (p1 < 2 ^ 40) }
+    ensures value { result ≡ worth_of fee r0 r1 p0 p1 }
+    ensures below { result < 2 ^ 99 }
+{
+    let weight = 1000 - fee as u128;
+    let value0 = p0 as u128 * r0 as u128;
+    let value1 = p1 as u128 * r1 as u128;
+    if 1000 * value0 < weight * value1 {
+        margin(weight, 1000 * value0, weight * value1)
+    } else if 1000 * value1 < weight * value0 {
+        margin(weight, 1000 * value1, weight * value0)
+    } else {
+        0
+    }
+}
+
+// What a route can gain from a pool whose reserves are worth `a`, and `b` after the fee.
+fn margin(weight: u128, a: u128, b: u128) -> u128
+    requires weight { (1 ≤ weight) × (weight ≤ 1000) }
+    requires fits { (a < 2 ^ 98) × (b < 2 ^ 98) }
+    ensures value { result ≡ margin_of weight a b }
+    ensures below { result < 2 ^ 99 }
+{
+    let root_a = root(a * SCALE);
+    let root_b = root(b * SCALE);
+    let twice_mean = root_a as u128 * root_b as u128 / (SCALE / 2);
+    (a + b - twice_mean) / weight
+}
+
+/// The bound at the prices, of which there is one for each token of the problem: no route delivers
+/// more.
+pub fn bound(problem: &Problem, prices: &Prices) -> u128
+    requires { length prices.now ≡ length problem.now.tokens }
+    ensures value { result ≡ bound_of problem.now prices.now }
+    ensures beats { (route : List Trade) → IsRoute problem.now route → delivered_by problem.now route ≤ result }
+{
+    let d = problem.d();
+    let (source, target) = problem.ends();
+    let pools = problem.pools();
+    let places = problem.places();
+    let list = prices.as_slice();
+    let mut value = list[source] as u128 * d as u128;
+    for i in 0..pools.len() {
+        value += worth_at(&pools[i], places[i], list);
+    }
+    value / list[target] as u128
+}
+
+// The worth of a pool at the prices of its tokens, which stand at the places.
+fn worth_at(pool: &ProblemPool, places: TokenPlaces, prices: &[u64]) -> u128
+    requires reserves { HasReserves pool.now }
+    requires places { (places.zero < length prices.now) × (places.one < length prices.now) }
+    requires prices { ArePrices prices.now }
+    ensures value { result ≡ worth_of (fee_of pool.now) pool.now.r0 pool.now.r1 (slice_index prices.now places.zero) (slice_index prices.now places.one) }
+    ensures below { result < 2 ^ 99 }
+{
+    worth(
+        pool.name.fee(),
+        pool.r0,
+        pool.r1,
+        prices[places.zero],
+        prices[places.one],
+    )
+}
+
+/// No route delivers more than the bound, at any prices of any problem.
+pub fn no_route_beats()
+    ensures { (problem : ProblemView) (prices : List ℕ) (route : List Trade) →
+        IsProblem problem → length prices ≡ length problem.tokens → ArePrices prices → IsRoute problem route →
+        delivered_by problem route ≤ bound_of problem prices }
+{}
+
+/// A leg-by-leg route is, leg for trade, a route that delivers the same.
+pub fn legs_are_a_route()
+    ensures route { (problem : ProblemView) (legs : List leg_view.Leg) →
+        IsProblem problem → AreLegs problem.pools [] (starting_with problem) legs →
+        IsRoute problem (map trade_of legs) }
+    ensures delivers { (problem : ProblemView) (legs : List leg_view.Leg) →
+        IsProblem problem → AreLegs problem.pools [] (starting_with problem) legs →
+        delivered_by problem (map trade_of legs) ≡ after_legs problem.pools (starting_with problem) legs problem.t }
+{}
+
+#[cfg(test)]
+mod tests {
+    use super::*;
+    use amm_model::{PoolName, TokenName};
+    use std::alloc::Global;
+
+    #[test]
+    fn worths(rt: HostRuntime) {
+        assert_eq!(rt; worth(3, 1000000, 1000000, 1, 1), 0);
+        assert_eq!(rt; worth(3, 1000000, 1000000, 1, 2), 170329);
+        assert_eq!(rt; worth(3, 1000000, 4000000, 4194304, 1048576), 0);
+        assert_eq!(rt; worth(1, 1000000, 1000000, 1, 2), 171158);
+        assert_eq!(rt; worth(10, 1000000, 1000000, 1, 2), 167424);
+    }
+
+    // 100000 of A to T over one pool.
+    fn one_pool(alloc: Global) -> Option<Problem> {
+        let s = TokenName::read(alloc, b"A").ok()??;
+        let t = TokenName::read(alloc, b"T").ok()??;
+        let name = PoolName::of(alloc, &s, &t, 3).ok()??;
+        let mut pools = Vec::new(alloc);
+        let r = 1000000;
+        pools
+            .push(ProblemPool {
+                name,
+                r0: r,
+                r1: r,
+                b0: r,
+                b1: r,
+            })
+            .ok()?;
+        Problem::from_parts(alloc, s, t, 100000, pools).ok()?
+    }
+
+    fn bound_of_one_pool(alloc: Global, price_a: u64, price_t: u64) -> Option<u128> {
+        let problem = one_pool(alloc)?;
+        let mut list = Vec::new(alloc);
+        list.push(price_a).ok()?;
+        list.push(price_t).ok()?;
+        let prices = Prices::from_parts(list)?;
+        if prices.as_slice().len() != problem.tokens().len() {
+            return None;
+        }
+        Some(bound(&problem, &prices))
+    }
+
+    #[test]
+    fn bound_of_the_only_pool(rt: HostRuntime) {
+        assert_eq!(rt; bound_of_one_pool(rt.alloc(), 1, 2), Some(135164));
+        assert_eq!(rt; bound_of_one_pool(rt.alloc(), 0, 2), None);
+    }
+}

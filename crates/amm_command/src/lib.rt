@@ -1,0 +1,12 @@
+//! Reads the bytes of a line as a command. Bytes that are no JSON, and JSON that fits no row of the table of commands,
+//! are told apart exactly, and a command is read as exactly what its row says.
+#![tactic(auto)]
+
+mod form;
+mod line;
+mod path;
+mod row;
+mod step;
+mod step_row;
+
+pub use line::read_line;

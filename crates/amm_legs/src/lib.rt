@@ -1,0 +1,28 @@
+//! What a leg-by-leg route delivers, if it is one.
+//!
+//! `legs_delivered` judges any list of legs over a problem in one pass and without memory: what it
+//! holds of each token stands at the token's place. A router's proposal, a kept quote and a
+//! certificate are all judged by it.
+#![tactic(auto)]
+
+mod progress;
+
+ghost use Rattle.std.specs.Prelude.{◌≡◌, [], MatchOption};
+ghost use Rattle.amm_model.specs.Legs.{AreLegs, Delivers, starting_with};
+
+use amm_model::{Leg, Problem};
+use progress::Progress;
+
+/// What the legs deliver of the problem's target; None exactly where they are no leg-by-leg route
+/// of the problem.
+pub fn legs_delivered(problem: &Problem, legs: &[Leg]) -> Option<u64>
+    ensures { MatchOption result (¬ AreLegs problem.now.pools [] (starting_with problem.now) legs.now) (λ amount. Delivers problem.now legs.now amount) }
+{
+    let mut progress = Progress::start(problem);
+    for i in 0..legs.len() {
+        if !progress.take(problem, legs, i) {
+            return None;
+        }
+    }
+    Some(progress.held_of_target(problem, legs))
+}

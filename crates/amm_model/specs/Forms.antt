@@ -1,0 +1,117 @@
+-- The forms of values in commands: names, amounts, fees and paths.
+use Rattle.std.specs.Prelude.{ℕ, List, [], ◌∷◌, map, length, Bool, ◌&&◌, nat_le, if◌then◌else◌, Result, Ok, Err, ok_or}
+use Rattle.serde_json.specs.Data.{Data, number, array, unsigned}
+use Rattle.serde_json.specs.Find.{as_str}
+use Rattle.amm_names.specs.declared.holder.Asset.{Asset}
+use Rattle.amm_names.specs.declared.holder.Holder.{Holder}
+use Rattle.amm_names.specs.Names.{is_user_name, is_token_name}
+use Rattle.amm_names.specs.Pools.{is_pool_name, is_fee}
+use Rattle.amm_names.specs.Holders.{asset_of, holder_of}
+use Rattle.amm_model.specs.declared.fault.Refusal.{Refusal}
+use Rattle.amm_model.specs.declared.fault.Refusal.TheVariants.{BadCommand}
+use Rattle.amm_model.specs.declared.path.RoutePath.{RoutePath}
+use Rattle.amm_model.specs.Outcome.{◌>>=◌}
+use Rattle.amm_model.specs.Json.{elements}
+
+-- the value, where it passes the test
+abbrev pub fitting : {A : Type 0} → Bool → A → Result A Refusal
+fitting test x = if test then Ok x else Err BadCommand
+
+-- a string, as its bytes
+abbrev pub as_text : Data → Result (List ℕ) Refusal
+as_text d = ok_or (as_str d) BadCommand
+
+-- an array, as the list of its elements
+abbrev pub as_list : Data → Result (List Data) Refusal
+as_list (array ds) = Ok (elements ds)
+as_list _ = Err BadCommand
+
+-- a number that is written with no sign, fraction or exponent and is below 2^64
+abbrev pub as_whole : Data → Result ℕ Refusal
+as_whole (number (unsigned n)) = Ok n
+as_whole _ = Err BadCommand
+
+-- a string that is the name of a user
+unfoldable pub as_user : Data → Result (List ℕ) Refusal
+as_user d = do
+  name ← as_text d
+  fitting (is_user_name name) name
+
+-- a string that is the name of a token
+unfoldable pub as_token : Data → Result (List ℕ) Refusal
+as_token d = do
+  name ← as_text d
+  fitting (is_token_name name) name
+
+-- a string that is the name of a pool
+unfoldable pub as_pool : Data → Result (List ℕ) Refusal
+as_pool d = do
+  name ← as_text d
+  fitting (is_pool_name name) name
+
+-- a string that is a token or a pool
+unfoldable pub as_asset : Data → Result Asset Refusal
+as_asset d = do
+  name ← as_text d
+  ok_or (asset_of name) BadCommand
+
+-- a string that is a user, a pool, a token, or `0`
+unfoldable pub as_holder : Data → Result Holder Refusal
+as_holder d = do
+  name ← as_text d
+  ok_or (holder_of name) BadCommand
+
+-- the greatest amount, 2^52-1
+abbrev pub amount_max : ℕ
+amount_max = 4503599627370495
+
+-- any amount, time, deadline or number
+unfoldable pub as_amount : Data → Result ℕ Refusal
+as_amount d = do
+  n ← as_whole d
+  fitting (nat_le n amount_max) n
+
+-- the number 1, 3 or 10
+unfoldable pub as_fee : Data → Result ℕ Refusal
+as_fee d = do
+  fee ← as_whole d
+  fitting (is_fee fee) fee
+
+-- what may stand behind the arguments of a pair: a fee, or nothing for the fee of 3
+abbrev pub fee_behind : List Data → Result ℕ Refusal
+fee_behind [] = Ok 3
+fee_behind (fee ∷ []) = as_fee fee
+fee_behind _ = Err BadCommand
+
+-- a token of a path, and the fee of the pool that leads to it
+pub record Hop : Type 0 where
+  pub fee : ℕ
+  pub token : List ℕ
+
+-- what follows a token of a path: where it goes on, the fee of the pool to the next token, or nothing for the fee of 3, and that token
+unfoldable pub hops : List Data → Result (List Hop) Refusal
+hops [] = Ok []
+hops (number n ∷ next ∷ rest) = do
+  fee ← as_fee (number n)
+  token ← as_token next
+  more ← hops rest
+  Ok (record { fee = fee; token = token } ∷ more)
+hops (next ∷ rest) = do
+  token ← as_token next
+  more ← hops rest
+  Ok (record { fee = 3; token = token } ∷ more)
+
+-- the tokens of a path and the fees between them
+abbrev pub path_along : List Data → Result RoutePath Refusal
+path_along [] = Err BadCommand
+path_along (first ∷ rest) = do
+  token ← as_token first
+  more ← hops rest
+  Ok (record { tokens = token ∷ map (λ hop. hop.token) more; fees = map (λ hop. hop.fee) more })
+
+-- an array of 2 to 8 tokens, with the fees that are not 3 between them
+unfoldable pub as_path : Data → Result RoutePath Refusal
+as_path d = do
+  ds ← as_list d
+  path ← path_along ds
+  fitting (nat_le 2 (length path.tokens) && nat_le (length path.tokens) 8) path
