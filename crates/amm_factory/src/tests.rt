@@ -75,8 +75,14 @@ fn creates_each_pool_once(rt: HostRuntime) -> Result<(), Fail> {
     assert_eq!(rt; first.as_bytes(), b"ETH/USD".as_slice());
     let second = answer(alloc, &usd, &eth, 3, 10)??;
     assert_eq!(rt; second.as_bytes(), b"ETH/USD:10".as_slice());
-    assert_eq!(rt; answer(alloc, &usd, &eth, 1, 1)?.err(), Some(Fault::Refused(Refusal::PairExists)));
-    assert_eq!(rt; answer(alloc, &eth, &eth, 3, 3)?.err(), Some(Fault::Refused(Refusal::Identical)));
+    assert_eq!(rt;
+        answer(alloc, &usd, &eth, 1, 1)?.err(),
+        Some(Fault::Refused(Refusal::PairExists))
+    );
+    assert_eq!(rt;
+        answer(alloc, &eth, &eth, 3, 3)?.err(),
+        Some(Fault::Refused(Refusal::Identical))
+    );
     Ok(())
 }
 
