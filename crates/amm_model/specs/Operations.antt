@@ -38,12 +38,16 @@ free_pair ledger pool = if_free (pair_of ledger.pairs pool)
 abbrev pub renewed : PairRecord → (time b0 b1 : ℕ) → PairRecord
 renewed pair time b0 b1 = record (accumulated pair time) { r0 = b0; r1 = b1 }
 
--- the record with what the pool has as its reserves, if both are within the limit of a reserve (core, _update)
-unfoldable pub updated : Ledger → List ℕ → PairRecord → Result PairRecord Refusal
-updated ledger pool pair =
-    if nat_lt reserve_limit (held0 ledger pool) then Err code.Overflow
-    else (if nat_lt reserve_limit (held1 ledger pool) then Err code.Overflow
-    else Ok (renewed pair ledger.time (held0 ledger pool) (held1 ledger pool)))
+-- the record with these balances as its reserves, if both are within the limit of a reserve (core, _update)
+unfoldable pub updated_to : PairRecord → (time b0 b1 : ℕ) → Result PairRecord Refusal
+updated_to pair time b0 b1 =
+    if nat_lt reserve_limit b0 then Err code.Overflow
+    else (if nat_lt reserve_limit b1 then Err code.Overflow
+    else Ok (renewed pair time b0 b1))
+
+-- the record with what the pool has as its reserves
+abbrev pub updated : Ledger → List ℕ → PairRecord → Result PairRecord Refusal
+updated ledger pool pair = updated_to pair ledger.time (held0 ledger pool) (held1 ledger pool)
 
 -- what the pool has becomes its reserves (core, sync)
 unfoldable pub sync : Ledger → List ℕ → Outcome (Unit {0})
@@ -95,9 +99,12 @@ open_loan ledger pool out0 out1 to = do
   lent ← lend ledger pool out0 out1 to
   Ok (record { ledger = lent.ledger; answer = record { pool = pool; out0 = out0; out1 = out1; pair = lent.answer } })
 
--- what has come in since the outputs went out: 0 where the pool has less than the loan left it (core, swap)
+-- what has come in since the outputs went out: 0 where the balance is less than the loan left (core, swap)
+abbrev pub came_to : PairRecord → (b0 b1 out0 out1 : ℕ) → SwapReceipt
+came_to pair b0 b1 out0 out1 = record { in0 = b0 - (pair.r0 - out0); in1 = b1 - (pair.r1 - out1); out0 = out0; out1 = out1 }
+
 abbrev pub came_in : Ledger → List ℕ → PairRecord → (out0 out1 : ℕ) → SwapReceipt
-came_in ledger pool pair out0 out1 = record { in0 = held0 ledger pool - (pair.r0 - out0); in1 = held1 ledger pool - (pair.r1 - out1); out0 = out0; out1 = out1 }
+came_in ledger pool pair out0 out1 = came_to pair (held0 ledger pool) (held1 ledger pool) out0 out1
 
 -- whether what the pool has, less the pool's fee on what came in, keeps the product of the reserves (whitepaper 3.2.1)
 abbrev pub keeps_product : Ledger → List ℕ → PairRecord → SwapReceipt → Bool

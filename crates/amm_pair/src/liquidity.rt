@@ -49,7 +49,9 @@ fn mint_at(alloc: Global, tx: &mut Tx, pool: &PoolName, to: &Holder) -> Result<M
     }
     take_fee(alloc, tx, pool, fee)?;
     give_shares(alloc, tx, pool, to, before, shares)?;
-    let new = match updated(tx.book(), pool, &after_fee(nobody, &pair)) {
+    let b0 = held0(tx.book(), pool);
+    let b1 = held1(tx.book(), pool);
+    let new = match updated(&after_fee(nobody, &pair), tx.book().time(), b0, b1) {
         Ok(new) => new,
         Err(why) => return Err(tx.refuse(why)),
     };
@@ -126,7 +128,9 @@ fn burn_at(alloc: Global, tx: &mut Tx, pool: &PoolName, to: &Holder) -> Result<B
     }
     take_fee(alloc, tx, pool, fee)?;
     pay_out(alloc, tx, pool, to, own, &parts)?;
-    let new = match updated(tx.book(), pool, &after_fee(nobody, &pair)) {
+    let b0 = held0(tx.book(), pool);
+    let b1 = held1(tx.book(), pool);
+    let new = match updated(&after_fee(nobody, &pair), tx.book().time(), b0, b1) {
         Ok(new) => new,
         Err(why) => return Err(tx.refuse(why)),
     };
