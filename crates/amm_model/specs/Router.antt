@@ -38,53 +38,64 @@ side_of ledger from to fee = do
   pair ← if_there (pair_of ledger.pairs pool)
   Ok (seen_from pool (is_before from to) pair)
 
+-- the trade that an input makes with the pool of two tokens (library, getAmountOut)
+unfoldable pub trade_out : Ledger → (from to : List ℕ) → (fee : ℕ) → ℕ → Result Trade Refusal
+trade_out ledger from to fee x = do
+  side ← side_of ledger from to fee
+  _ ← refuse_if (x == 0) code.InsufficientInputAmount
+  _ ← refuse_if (side.rin == 0 || side.rout == 0) code.InsufficientLiquidity
+  Ok (record { pool = side.pool; zero_in = side.zero_in; output = amount_out_of fee x side.rin side.rout })
+
+-- the trades that an input leads to, pool by pool from the first (library, getAmountsOut)
+unfoldable pub trades_out : Ledger → (from : List ℕ) → List (List ℕ) → List ℕ → ℕ → Result (List Trade) Refusal
+trades_out ledger from (to ∷ tokens) (fee ∷ fees) x = do
+  trade ← trade_out ledger from to fee x
+  later ← trades_out ledger to tokens fees trade.output
+  Ok (trade ∷ later)
+trades_out ledger from _ _ x = Ok []
+
 -- what goes into the first pool, and the trades that follow from it, in order
 pub record Plan : Type 0 where
   pub input : ℕ
   pub trades : List Trade
 
--- the plan, behind a trade on this side
-abbrev pub behind : Side → (input : ℕ) → Plan → Plan
-behind side input later = record { input = input; trades = record { pool = side.pool; zero_in = side.zero_in; output = later.input } ∷ later.trades }
-
--- what an input leads to, pool by pool from the first (library, getAmountsOut)
-unfoldable pub plan_out : Ledger → (from : List ℕ) → List (List ℕ) → List ℕ → ℕ → Result Plan Refusal
-plan_out ledger from (to ∷ tokens) (fee ∷ fees) x = do
+-- what the pool of two tokens asks for an output, and the trade (library, getAmountIn)
+unfoldable pub trade_in : Ledger → (from to : List ℕ) → (fee : ℕ) → ℕ → Result (ℕ × Trade) Refusal
+trade_in ledger from to fee y = do
   side ← side_of ledger from to fee
-  _ ← refuse_if (x == 0) code.InsufficientInputAmount
+  _ ← refuse_if (y == 0) code.InsufficientOutputAmount
   _ ← refuse_if (side.rin == 0 || side.rout == 0) code.InsufficientLiquidity
-  later ← plan_out ledger to tokens fees (amount_out_of fee x side.rin side.rout)
-  Ok (behind side x later)
-plan_out ledger from _ _ x = Ok (record { input = x; trades = [] })
+  _ ← refuse_if (nat_le side.rout y) code.InsufficientLiquidity
+  Ok (amount_in_of fee y side.rin side.rout, record { pool = side.pool; zero_in = side.zero_in; output = y })
 
--- what an output asks for, pool by pool from the last (library, getAmountsIn)
+-- the plan that an output asks for, pool by pool from the last (library, getAmountsIn)
 unfoldable pub plan_in : Ledger → (from : List ℕ) → List (List ℕ) → List ℕ → ℕ → Result Plan Refusal
 plan_in ledger from (to ∷ tokens) (fee ∷ fees) y = do
   later ← plan_in ledger to tokens fees y
-  side ← side_of ledger from to fee
-  _ ← refuse_if (later.input == 0) code.InsufficientOutputAmount
-  _ ← refuse_if (side.rin == 0 || side.rout == 0) code.InsufficientLiquidity
-  _ ← refuse_if (nat_le side.rout later.input) code.InsufficientLiquidity
-  Ok (behind side (amount_in_of fee later.input side.rin side.rout) later)
+  asked ← trade_in ledger from to fee later.input
+  Ok (record { input = asked.0; trades = asked.1 ∷ later.trades })
 plan_in ledger from _ _ y = Ok (record { input = y; trades = [] })
 
--- the same from the first token of a path
-abbrev pub out_along : Ledger → RoutePath → ℕ → Result Plan Refusal
-out_along ledger path x = from_first path.tokens where
-  from_first : List (List ℕ) → Result Plan Refusal
-  from_first [] = Ok (record { input = x; trades = [] })
-  from_first (from ∷ tokens) = plan_out ledger from tokens path.fees x
+abbrev pub out_from_first : Ledger → List (List ℕ) → List ℕ → ℕ → Result (List Trade) Refusal
+out_from_first ledger [] fees x = Ok []
+out_from_first ledger (from ∷ tokens) fees x = trades_out ledger from tokens fees x
 
--- the same, with a first amount that is within the limit
-abbrev pub in_along : Ledger → RoutePath → ℕ → Result Plan Refusal
+abbrev pub in_from_first : Ledger → List (List ℕ) → List ℕ → ℕ → Result Plan Refusal
+in_from_first ledger [] fees y = Ok (record { input = y; trades = [] })
+in_from_first ledger (from ∷ tokens) fees y = plan_in ledger from tokens fees y
+
+-- what an input leads to along a path
+unfoldable pub out_along : Ledger → RoutePath → ℕ → Result Plan Refusal
+out_along ledger path x = do
+  trades ← out_from_first ledger path.tokens path.fees x
+  Ok (record { input = x; trades = trades })
+
+-- what an output asks for along a path, with a first amount within the limit
+unfoldable pub in_along : Ledger → RoutePath → ℕ → Result Plan Refusal
 in_along ledger path y = do
-  plan ← from_first path.tokens
+  plan ← in_from_first ledger path.tokens path.fees y
   _ ← refuse_if (nat_lt total_limit plan.input) code.AmountLimit
   Ok plan
- where
-  from_first : List (List ℕ) → Result Plan Refusal
-  from_first [] = Ok (record { input = y; trades = [] })
-  from_first (from ∷ tokens) = plan_in ledger from tokens path.fees y
 
 -- the first amount, and what each pool pays
 abbrev pub amounts_of : Plan → List ℕ
@@ -119,18 +130,19 @@ swap_along ledger (trade ∷ later) to = do
   swapped ← swap ledger trade.pool (if trade.zero_in then 0 else trade.output) (if trade.zero_in then trade.output else 0) (receiver_of later to)
   swap_along swapped.ledger later to
 
+-- the input of a plan from the actor to its first pool
+unfoldable pub pay_first : Ledger → (actor : List ℕ) → ℕ → List Trade → Outcome (Unit {0})
+pay_first ledger actor input [] = done ledger
+pay_first ledger actor input (first ∷ later) = transfer ledger (asset_in first) (holder.User actor) (holder.Pool first.pool) input
+
 -- the input from the actor to the first pool, and then the swaps
 unfoldable pub trade_along : Ledger → (actor : List ℕ) → Plan → Holder → Outcome (List ℕ)
 trade_along ledger actor plan to = do
-  paid ← pay plan.trades
+  paid ← pay_first ledger actor plan.input plan.trades
   swapped ← swap_along paid.ledger plan.trades to
   Ok (record { ledger = swapped.ledger; answer = amounts_of plan })
- where
-  pay : List Trade → Outcome (Unit {0})
-  pay [] = done ledger
-  pay (first ∷ later) = transfer ledger (asset_in first) (holder.User actor) (holder.Pool first.pool) plan.input
 
--- what the last pool of a plan pays
+-- the last amount
 abbrev pub last_of : List ℕ → ℕ
 last_of amounts = unwrap_or (slice_get amounts (length amounts - 1)) 0
 
