@@ -6,6 +6,13 @@
 //! reserves at the start, and the pair's own tests decide at each swap.
 #![tactic(auto)]
 
+mod liquidity;
+mod payments;
 mod plan;
 mod quotes;
 mod sides;
+mod swaps;
+
+pub use liquidity::{add, remove};
+pub use quotes::{amounts_in, amounts_out};
+pub use swaps::{swap_exact_in, swap_exact_out};
