@@ -24,3 +24,4 @@ pub mod Later
 pub mod ReplyText
 pub mod Certificate
 pub mod Fits
+pub mod Router
