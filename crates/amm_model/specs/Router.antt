@@ -1,5 +1,5 @@
 -- What the router does: amounts along a path, swaps along it, and liquidity with minimums.
-use Rattle.std.specs.Prelude.{ℕ, ◌-◌, ◌==◌, Bool, ◌&&◌, ◌||◌, nat_lt, nat_le, if◌then◌else◌, List, [], ◌∷◌, length, map, slice_get, Result, Ok, Err, ok_or}
+use Rattle.std.specs.Prelude.{ℕ, ◌-◌, ◌==◌, Bool, ◌&&◌, ◌||◌, nat_lt, nat_le, if◌then◌else◌, List, [], ◌∷◌, length, map, slice_get, Result, Ok, ok_or}
 use Rattle.std.specs.Option.{is_some, unwrap_or}
 use Rattle.amm_names.specs.declared.holder.Holder.{Holder}
 use Rattle.amm_names.specs.declared.holder.Holder.TheVariants as holder
@@ -19,7 +19,7 @@ use Rattle.amm_model.specs.declared.command.RemoveWant.{RemoveWant}
 use Rattle.amm_model.specs.declared.fault.Refusal.{Refusal}
 use Rattle.amm_model.specs.declared.fault.Refusal.TheVariants as code
 use Rattle.amm_model.specs.Outcome.{◌>>=◌, refuse_if}
-use Rattle.amm_model.specs.Ledger.{Ledger, Outcome, Made, done, transfer, pair_of, total_limit}
+use Rattle.amm_model.specs.Ledger.{Ledger, Outcome, done, transfer, pair_of, total_limit}
 use Rattle.amm_model.specs.Pools.{asset0, asset1}
 use Rattle.amm_model.specs.Swap.{amount_out_of, amount_in_of, quote_of}
 use Rattle.amm_model.specs.Operations.{if_there, swap, mint, burn}
