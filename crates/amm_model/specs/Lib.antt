@@ -25,3 +25,4 @@ pub mod Runs
 pub mod Later
 pub mod Certificate
 pub mod Fits
+pub mod Router

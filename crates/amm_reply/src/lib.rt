@@ -1,0 +1,7 @@
+//! Writes replies: each as the compact JSON text of exactly its value, with a newline.
+#![tactic(auto)]
+
+mod verdict;
+mod writer;
+
+pub use writer::{append, write};
