@@ -1,6 +1,6 @@
 -- What every accepted command keeps, and so every line.
 use Rattle.std.proofs.Common.{◌≡◌, ◌≢◌, ◌≤◌, ◌+◌, ◌∷◌, ◌∙◌, ℕ, List, [], Result, Ok, Err, sym, ap, subst, refl, arith}
-use Rattle.std.specs.Prelude.{MatchResult, ok_or, ⊤}
+use Rattle.std.specs.Prelude.{MatchResult, ok_or}
 use Rattle.amm_names.specs.declared.holder.Holder.TheVariants as holders
 use Rattle.amm_names.specs.declared.holder.Asset.TheVariants as assets
 use Rattle.amm_model.specs.declared.fault.Refusal.{Refusal}
@@ -10,46 +10,44 @@ use Rattle.amm_model.specs.declared.reply.Answer.{Answer}
 use Rattle.amm_model.specs.declared.reply.Answer.TheVariants as answers
 use Rattle.amm_model.specs.declared.reply.Reply.{Reply}
 use Rattle.amm_model.specs.Outcome.{◌>>=◌}
-use Rattle.amm_model.specs.Ledger.{Ledger, Made, Outcome, total_limit, list, issue, retire, set_time, pair_of}
+use Rattle.amm_model.specs.Ledger.{Ledger, Made, Outcome, list, issue, retire, set_time, pair_of}
 use Rattle.amm_model.specs.Pools.{held0, held1, supply}
-use Rattle.amm_model.specs.Sound.{IsAtRest}
-use Rattle.amm_model.specs.Fits.{Fits, FitsMove}
+use Rattle.amm_model.specs.Sound.{IsSound, IsAtRest}
+use Rattle.amm_model.specs.Fits.{Fits}
 use Rattle.amm_model.specs.Factory.{set_fee_to, set_setter}
+use Rattle.amm_model.specs.Router.{amounts_out, amounts_in}
 use Rattle.amm_model.specs.Laws.{ZeroKept, TokenTotalsKept}
 use Rattle.amm_model.specs.CommandView as command
 use Rattle.amm_model.specs.CommandView.{CommandView}
-use Rattle.amm_model.specs.Meaning.{known, deposit, withdraw, outcome_of, told}
+use Rattle.amm_model.specs.Meaning.{known, deposit, withdraw, outcome_of, told, answering}
 use Rattle.amm_model.specs.Answers.{Answers, After, outcome_of_line, answered, left_by}
 use Rattle.amm_model.specs.Reading.{command_of_line}
-use Rattle.amm_model.specs.ReplyText.{CanBeWritten}
 use Rattle.amm_model.specs.Runs.{Step, FairStep, one_reply, TotalsMoved, TotalsMovedBy}
 use Rattle.amm_model.proofs.Guards.{given, same_answer}
-use Rattle.amm_model.proofs.Keeping.{plain_keeps, rest_kept}
+use Rattle.amm_model.proofs.Keeping.{Keeps, plain_keeps, rest_kept}
 use Rattle.amm_model.proofs.PlainSound.{list_listed, list_plain, list_rest, list_totals, issue_plain, issue_rest, issue_deposited, retire_plain, retire_rest, retire_withdrawn, set_time_plain, set_time_sound, set_time_totals}
 use Rattle.amm_factory.proofs.Settings.{set_fee_to_keeps, set_fee_to_sound, set_setter_keeps, set_setter_sound}
-use Rattle.amm_engine.proofs.StepLaws.{StepHolds, IsAccepted, told_plain, step_holds}
+use Rattle.amm_model.proofs.Fitting.{reads_fitting}
+use Rattle.amm_engine.proofs.ScriptLaws.{step_kept}
+use Rattle.amm_engine.proofs.Told.{IsAccepted, step_told}
 
 -- What holds after a command that was accepted.
-pub record Kept (asked : CommandView) (old new : Ledger) (answer : Answer) : Type 0 where
-  pub rest : IsAtRest old → Fits asked → IsAtRest new
+pub record Promised (asked : CommandView) (old new : Ledger) (answer : Answer) : Type 0 where
+  pub rest : IsAtRest old → IsAtRest new
   pub zero : ZeroKept old new
   pub totals : TotalsMoved asked answer old new
   pub told : IsAccepted answer
 
 -- what leaves the totals of tokens alone
-kept_by : (asked : CommandView) (Within : Type 0) (old : Ledger) (made : Made Answer) → StepHolds Within old made → (Fits asked → Within)
-    → (TokenTotalsKept old made.ledger → TotalsMoved asked made.answer old made.ledger) → Kept asked old made.ledger made.answer
-kept_by asked Within old made step within totals = record {
-  rest = λ rest fits. rest_kept old made.ledger rest step.holds.keeps (step.holds.sound (within fits) rest.sound);
-  zero = step.holds.keeps.zero;
-  totals = totals step.holds.keeps.totals;
-  told = step.told;
-}
+promised_by : (asked : CommandView) (old : Ledger) (made : Made Answer) → Keeps old made.ledger → (IsSound old → IsSound made.ledger)
+    → (TokenTotalsKept old made.ledger → TotalsMoved asked made.answer old made.ledger) → IsAccepted made.answer → Promised asked old made.ledger made.answer
+promised_by asked old made keeps sound totals told =
+    record { rest = λ rest. rest_kept old made.ledger rest keeps (sound rest.sound); zero = keeps.zero; totals = totals keeps.totals; told = told }
 
-deposit_kept : (old : Ledger) (user token : List ℕ) (n : ℕ) (made : Made Answer) → deposit old user token n ≡ Ok made
-    → Kept (command.deposit user token n) old made.ledger made.answer
+deposit_promised : (old : Ledger) (user token : List ℕ) (n : ℕ) (made : Made Answer) → deposit old user token n ≡ Ok made
+    → Promised (command.deposit user token n) old made.ledger made.answer
 unfolding deposit
-deposit_kept old user token n made is =
+deposit_promised old user token n made is =
     let first = given (list old token) _ made is in
     let mid : Ledger = first.value.ledger in
     let second = given (issue mid (assets.Token token) (holders.User user) n) _ made first.after in
@@ -58,21 +56,21 @@ deposit_kept old user token n made is =
     let one = list_plain old token first.value first.was in
     let two = issue_plain mid token (holders.User user) n second.value second.was in
     let here = (list_listed old token first.value first.was).here in
-    subst (λ (k : Made Answer). Kept (command.deposit user token n) old k.ledger k.answer) (same_answer _ made second.after) (record {
-      rest = λ rest fits. issue_rest mid token (holders.User user) n second.value second.was here (list_rest old token first.value first.was rest);
+    subst (λ (k : Made Answer). Promised (command.deposit user token n) old k.ledger k.answer) (same_answer _ made second.after) (record {
+      rest = λ rest. issue_rest mid token (holders.User user) n second.value second.was here (list_rest old token first.value first.was rest);
       zero = λ q. omega (arith, one.zero q, two.zero q);
       totals = record { here = omega (arith, paid.here, same token); others = λ other apart. paid.others other apart ∙ same other };
       told = record { accepted = λ why e. cc; written = tt };
     })
 
-withdraw_kept : (old : Ledger) (user token : List ℕ) (n : ℕ) (made : Made Answer) → withdraw old user token n ≡ Ok made
-    → Kept (command.withdraw user token n) old made.ledger made.answer
+withdraw_promised : (old : Ledger) (user token : List ℕ) (n : ℕ) (made : Made Answer) → withdraw old user token n ≡ Ok made
+    → Promised (command.withdraw user token n) old made.ledger made.answer
 unfolding withdraw
-withdraw_kept old user token n made is =
+withdraw_promised old user token n made is =
     let first = given (known old (assets.Token token)) _ made is in
     let second = given (retire old (assets.Token token) (holders.User user) n) _ made first.after in
-    subst (λ (k : Made Answer). Kept (command.withdraw user token n) old k.ledger k.answer) (same_answer _ made second.after) (record {
-      rest = λ rest fits. retire_rest old token user n second.value second.was rest;
+    subst (λ (k : Made Answer). Promised (command.withdraw user token n) old k.ledger k.answer) (same_answer _ made second.after) (record {
+      rest = λ rest. retire_rest old token user n second.value second.was rest;
       zero = (retire_plain old token user n second.value second.was).zero;
       totals = retire_withdrawn old token user n second.value second.was;
       told = record { accepted = λ why e. cc; written = tt };
@@ -81,45 +79,52 @@ withdraw_kept old user token n made is =
 -- a query, where it may be answered, changes nothing
 asked_only : {A : Type 0} (asked : CommandView) (old : Ledger) (first : Result A Refusal) (answer : A → Answer) (made : Made Answer)
     → ((x : A) → TotalsMoved asked (answer x) old old) → ((x : A) → IsAccepted (answer x)) → (first >>= (λ x. told old (answer x))) ≡ Ok made
-    → Kept asked old made.ledger made.answer
+    → Promised asked old made.ledger made.answer
 asked_only asked old first answer made totals accepted is =
     let found = given first _ made is in
-    subst (λ (k : Made Answer). Kept asked old k.ledger k.answer) (same_answer _ made found.after)
-    (record { rest = λ rest fits. rest; zero = λ q. omega arith; totals = totals found.value; told = accepted found.value })
+    subst (λ (k : Made Answer). Promised asked old k.ledger k.answer) (same_answer _ made found.after)
+    (record { rest = λ rest. rest; zero = λ q. omega arith; totals = totals found.value; told = accepted found.value })
 
--- what every accepted command keeps
-pub kept : (old : Ledger) (asked : CommandView) (made : Made Answer) → outcome_of old asked ≡ Ok made → Kept asked old made.ledger made.answer
+-- what an operation that has nothing to tell leaves
+plain_promised : {A : Type 0} (asked : CommandView) (answer : Answer) (old : Ledger) (outcome : Outcome A) (made : Made Answer)
+    → ((done : Made A) → outcome ≡ Ok done → Keeps old done.ledger) → ((done : Made A) → outcome ≡ Ok done → IsSound old → IsSound done.ledger)
+    → ((new : Ledger) → TokenTotalsKept old new → TotalsMoved asked answer old new) → IsAccepted answer → answering answer outcome ≡ Ok made → Promised asked old made.ledger made.answer
+plain_promised asked answer old outcome made keeps sound totals accepted is =
+    let first = given outcome _ made is in
+    subst (λ (k : Made Answer). Promised asked old k.ledger k.answer) (same_answer _ made first.after)
+    (promised_by asked old (record { ledger = first.value.ledger; answer = answer }) (keeps first.value first.was) (sound first.value first.was) (totals first.value.ledger) accepted)
+
+-- what every accepted command promises
+pub promised : (old : Ledger) (asked : CommandView) (made : Made Answer) → Fits asked → outcome_of old asked ≡ Ok made → Promised asked old made.ledger made.answer
 unfolding outcome_of
-kept old (command.deposit user token n) made is = deposit_kept old user token n made is
-kept old (command.withdraw user token n) made is = withdraw_kept old user token n made is
-kept old (command.time n) made is =
-    kept_by (command.time n) (n ≤ total_limit) old made
-    (told_plain (n ≤ total_limit) answers.Time old (set_time old n) made
-    (λ done was. record { keeps = plain_keeps old done.ledger (set_time_plain old n done was) (set_time_totals old n done was); sound = λ fits sound. set_time_sound old n done was fits sound })
-    (record { accepted = λ why e. cc; written = tt }) is) (λ fits. fits) (λ same. same)
-kept old (command.fee_to actor to) made is =
-    kept_by (command.fee_to actor to) ⊤ old made
-    (told_plain ⊤ answers.FeeTo old (set_fee_to old actor to) made
-    (λ done was. record { keeps = set_fee_to_keeps old actor to done was; sound = λ fits sound. set_fee_to_sound old actor to done was sound })
-    (record { accepted = λ why e. cc; written = tt }) is) (λ fits. tt) (λ same. same)
-kept old (command.setter actor to) made is =
-    kept_by (command.setter actor to) ⊤ old made
-    (told_plain ⊤ answers.Setter old (set_setter old actor to) made
-    (λ done was. record { keeps = set_setter_keeps old actor to done was; sound = λ fits sound. set_setter_sound old actor to done was sound })
-    (record { accepted = λ why e. cc; written = tt }) is) (λ fits. tt) (λ same. same)
-kept old (command.pool p) made is =
+promised old (command.deposit user token n) made fits is = deposit_promised old user token n made is
+promised old (command.withdraw user token n) made fits is = withdraw_promised old user token n made is
+promised old (command.time n) made fits is =
+    plain_promised (command.time n) answers.Time old (set_time old n) made
+    (λ done was. plain_keeps old done.ledger (set_time_plain old n done was) (set_time_totals old n done was)) (λ done was sound. set_time_sound old n done was fits sound)
+    (λ new same. same) (record { accepted = λ why e. cc; written = tt }) is
+promised old (command.fee_to actor to) made fits is =
+    plain_promised (command.fee_to actor to) answers.FeeTo old (set_fee_to old actor to) made
+    (set_fee_to_keeps old actor to) (set_fee_to_sound old actor to) (λ new same. same) (record { accepted = λ why e. cc; written = tt }) is
+promised old (command.setter actor to) made fits is =
+    plain_promised (command.setter actor to) answers.Setter old (set_setter old actor to) made
+    (set_setter_keeps old actor to) (set_setter_sound old actor to) (λ new same. same) (record { accepted = λ why e. cc; written = tt }) is
+promised old (command.pool p) made fits is =
     asked_only (command.pool p) old (ok_or (pair_of old.pairs p) code.NoPair) (λ pair. answers.Pool pair (held0 old p) (held1 old p) (supply old p)) made
     (λ x token. refl) (λ x. record { accepted = λ why e. cc; written = tt }) is
-kept old (command.balance asset holder) made is =
+promised old (command.balance asset holder) made fits is =
     asked_only (command.balance asset holder) old (known old asset) _ made (λ x token. refl) (λ x. record { accepted = λ why e. cc; written = tt }) is
-kept old (command.total asset) made is =
+promised old (command.total asset) made fits is =
     asked_only (command.total asset) old (known old asset) _ made (λ x token. refl) (λ x. record { accepted = λ why e. cc; written = tt }) is
-kept old (command.act actor step) made is =
-    kept_by (command.act actor step) (FitsMove step) old made (step_holds old actor step made is) (λ fits. fits.1) (λ same. same)
-kept old (command.quote_out path n) made is = cc
-kept old (command.quote_in path n) made is = cc
-kept old (command.split s t d) made is = cc
-kept old (command.certificate quote) made is = cc
+promised old (command.act actor step) made fits is =
+    let kept = step_kept step old actor made fits.1 is in
+    promised_by (command.act actor step) old made kept.keeps kept.sound (λ same. same) (step_told old actor step made is)
+promised old (command.quote_out path n) made fits is =
+    asked_only (command.quote_out path n) old (amounts_out old path n) answers.QuoteOut made (λ x token. refl) (λ x. record { accepted = λ why e. cc; written = tt }) is
+promised old (command.quote_in path n) made fits is =
+    asked_only (command.quote_in path n) old (amounts_in old path n) answers.QuoteIn made (λ x token. refl) (λ x. record { accepted = λ why e. cc; written = tt }) is
+promised old (command.split s t d) made fits is = cc
+promised old (command.certificate quote) made fits is = cc
 
 -- ---- lines
 
@@ -186,17 +191,17 @@ unfolding After
 after_refused old bytes why = refl
 
 -- the command of a line was tried
-asked_sides : (old : Ledger) (bytes : List ℕ) (asked : CommandView) (outcome : Outcome Answer) → outcome_of old asked ≡ outcome → outcome_of_line old bytes ≡ outcome
+asked_sides : (old : Ledger) (bytes : List ℕ) (asked : CommandView) (outcome : Outcome Answer) → Fits asked → outcome_of old asked ≡ outcome → outcome_of_line old bytes ≡ outcome
     → Sides old bytes (Ok asked) outcome (answered outcome)
-asked_sides old bytes asked (Ok made) gives line_gives =
-    let k = kept old asked made gives in
+asked_sides old bytes asked (Ok made) fits gives line_gives =
+    let k = promised old asked made fits gives in
     record {
       after = sym (after_accepted old bytes made.answer k.told.accepted ∙ ap (left_by old) line_gives);
       refused = λ why refusal. absurd (k.told.accepted why refusal);
       zero = k.zero;
       totals = k.totals;
     }
-asked_sides old bytes asked (Err why) gives line_gives =
+asked_sides old bytes asked (Err why) fits gives line_gives =
     record { after = sym (after_refused old bytes why); refused = λ other refusal. refl; zero = λ q. omega arith; totals = refused_totals asked why old }
 
 fair_by : (old : Ledger) (number : ℕ) (bytes : List ℕ) (read : Result CommandView Refusal) (outcome : Outcome Answer) → command_of_line bytes ≡ read → outcome_of_line old bytes ≡ outcome
@@ -226,7 +231,7 @@ pub fair_asked : (old : Ledger) (number : ℕ) (bytes : List ℕ) (asked : Comma
     → FairStep old number (Whole bytes) (one_reply number (answered (outcome_of old asked))) (left_by old (outcome_of old asked))
 fair_asked old number bytes asked is =
     fair_by old number bytes (Ok asked) (outcome_of old asked) is (line_outcome old bytes (Ok asked) is)
-    (asked_sides old bytes asked (outcome_of old asked) refl (line_outcome old bytes (Ok asked) is))
+    (asked_sides old bytes asked (outcome_of old asked) (reads_fitting bytes asked is) refl (line_outcome old bytes (Ok asked) is))
 
 -- a line that is too long is a fair step
 pub fair_long : (old : Ledger) (number : ℕ) → FairStep old number Long (one_reply number (answers.Refused code.LongLine)) old

@@ -1,5 +1,6 @@
 pub mod Parts
-pub mod StepLaws
+pub mod Told
+pub mod ScriptLaws
 pub mod Fair
 pub mod Steps
 pub mod Streaming

@@ -1,13 +1,17 @@
 //! What each command does to the ledger, and what it answers.
-ghost use Rattle.std.specs.Prelude.{◌≡◌};
-ghost use Rattle.amm_model.specs.CommandView.{view_of, balance as ask_balance, fee_to as ask_fee_to, pool as ask_pool, setter as ask_setter, time as ask_time, total as ask_total};
-ghost use Rattle.amm_model.specs.Fits.{Fits};
+ghost use Rattle.std.specs.Prelude.{◌≡◌, ◌≤◌};
+ghost use Rattle.amm_model.specs.CommandView.{view_of, balance as ask_balance, fee_to as ask_fee_to, pool as ask_pool, quote_in as ask_quote_in, quote_out as ask_quote_out, setter as ask_setter, time as ask_time, total as ask_total};
+ghost use Rattle.amm_model.specs.Fits.{Fits, IsPath};
+ghost use Rattle.amm_model.specs.Ledger.{total_limit};
 ghost use Rattle.amm_model.specs.Meaning.{deposit as deposit_in, outcome_of, withdraw as withdraw_in};
 ghost use Rattle.amm_model.specs.Sound.{IsSound};
 ghost use Rattle.amm_state.specs.Tx.{Meets};
 
 use crate::standin::{known, run_step};
-use amm_model::{Answer, Asset, Command, Fault, Holder, PoolName, Refusal, TokenName, UserName};
+use amm_model::{
+    Answer, Asset, Command, Fault, Holder, PoolName, Refusal, RoutePath, TokenName, UserName,
+};
+use amm_path::{amounts_in, amounts_out};
 use amm_state::{Mark, Tx};
 use std::alloc::Global;
 
@@ -25,6 +29,8 @@ pub(crate) fn perform(alloc: Global, tx: &mut Tx, command: &Command) -> Result<A
         Command::Time { n } => time(alloc, tx, *n),
         Command::FeeTo { actor, to } => fee_to(alloc, tx, actor, to),
         Command::Setter { actor, to } => setter(alloc, tx, actor, to),
+        Command::QuoteOut { path, n } => quote_out(alloc, tx, path, *n),
+        Command::QuoteIn { path, n } => quote_in(alloc, tx, path, *n),
         Command::Pool { pool } => pool_record(tx, pool),
         Command::Balance { asset, holder } => balance(tx, asset, holder),
         Command::Total { asset } => total(tx, asset),
@@ -151,4 +157,34 @@ fn total(tx: &mut Tx, asset: &Asset) -> Result<Answer, Fault>
     Ok(Answer::Total {
         n: tx.book().total(asset),
     })
+}
+
+#[tactic(auto, unfolding(amm_model::specs::Meaning::outcome_of))]
+fn quote_out(alloc: Global, tx: &mut Tx, path: &RoutePath, n: u64) -> Result<Answer, Fault>
+    requires clean { tx.old.mark ≡ Mark.Clean }
+    requires sound { IsSound tx.old.present }
+    requires path { IsPath path.now }
+    requires amount { n ≤ total_limit }
+    ensures meets { Meets tx.old tx.new result (outcome_of tx.old.present (ask_quote_out path.now n)) }
+{
+    match amounts_out(alloc, tx.book(), path, n) {
+        Ok(amounts) => Ok(Answer::QuoteOut { amounts }),
+        Err(Fault::Refused(why)) => Err(tx.refuse(why)),
+        Err(Fault::Memory) => Err(tx.lack()),
+    }
+}
+
+#[tactic(auto, unfolding(amm_model::specs::Meaning::outcome_of))]
+fn quote_in(alloc: Global, tx: &mut Tx, path: &RoutePath, n: u64) -> Result<Answer, Fault>
+    requires clean { tx.old.mark ≡ Mark.Clean }
+    requires sound { IsSound tx.old.present }
+    requires path { IsPath path.now }
+    requires amount { n ≤ total_limit }
+    ensures meets { Meets tx.old tx.new result (outcome_of tx.old.present (ask_quote_in path.now n)) }
+{
+    match amounts_in(alloc, tx.book(), path, n) {
+        Ok(amounts) => Ok(Answer::QuoteIn { amounts }),
+        Err(Fault::Refused(why)) => Err(tx.refuse(why)),
+        Err(Fault::Memory) => Err(tx.lack()),
+    }
 }

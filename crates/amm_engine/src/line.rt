@@ -8,7 +8,7 @@ ghost use Rattle.amm_model.specs.ReplyText.{reply_text, CanBeWritten};
 ghost use Rattle.amm_engine.specs.Commands.{AnswersCommand, Accepted, Declined};
 
 use crate::command::perform;
-use crate::standin::append;
+use amm_reply::append;
 use amm_model::{Answer, Command, Fault, Memory, Reply};
 use amm_state::{State, Tx};
 use std::alloc::Global;

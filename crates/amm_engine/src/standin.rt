@@ -1,13 +1,12 @@
 // A stand-in.
-ghost use Rattle.std.specs.Prelude.{◌≡◌, ◌++◌, OnOk};
+ghost use Rattle.std.specs.Prelude.{◌≡◌, OnOk};
 ghost use Rattle.amm_model.specs.CommandView.{move_of_step};
 ghost use Rattle.amm_model.specs.Fits.{FitsMove};
 ghost use Rattle.amm_model.specs.Meaning.{known as known_in, meaning};
 ghost use Rattle.amm_model.specs.Sound.{IsSound};
-ghost use Rattle.amm_model.specs.ReplyText.{reply_text, CanBeWritten};
 ghost use Rattle.amm_state.specs.Tx.{Meets};
 
-use amm_model::{Answer, Asset, Fault, Memory, Refusal, Reply, Step, UserName};
+use amm_model::{Answer, Asset, Fault, Refusal, Step, UserName};
 use amm_state::{Book, Mark, Tx};
 use std::alloc::Global;
 
@@ -37,13 +36,4 @@ pub(crate) fn run_step(
     let _ = actor;
     let _ = step;
     Err(tx.lack())
-}
-
-pub(crate) fn append(text: &mut Vec<u8>, reply: &Reply) -> Result<(), Memory>
-    requires { CanBeWritten reply.now.answer }
-    ensures { OnOk result (text.new.items ≡ text.old.items ++ reply_text reply.now) }
-{
-    text.push(10)?;
-    let _ = reply;
-    Err(Memory)
 }

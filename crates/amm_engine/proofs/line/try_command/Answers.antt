@@ -1,8 +1,8 @@
-use Rattle.amm_engine.proofs.Fair.{kept}
+use Rattle.amm_engine.proofs.Fair.{promised}
 use Rattle.amm_engine.proofs.line.try_command.Goals as goal
 
 pub write_reply-requires : goal.write_reply-requires
-write_reply-requires c = (kept _ _ _ c.in-Ok.ensures.meets.gives).told.written
+write_reply-requires c = (promised _ _ _ c.requires.fits c.in-Ok.ensures.meets.gives).told.written
 
 pub returns-in_ok-write_reply-in-Ok-clause-accepted :
     goal.returns-in_ok-write_reply-in-Ok-clause-accepted
@@ -13,5 +13,5 @@ returns-in_ok-write_reply-in-Ok-clause-accepted c = λ _.
       gives = meets.gives;
       is = c.in_ok-write_reply-in-Ok.ensures;
       clean = meets.mark;
-      rest = (kept _ _ _ meets.gives).rest c.requires.rest c.requires.fits;
+      rest = (promised _ _ _ c.requires.fits meets.gives).rest c.requires.rest;
     }
