@@ -14,7 +14,9 @@ ghost use Rattle.amm_model.specs.Formulas.{elapsed as elapsed_of, grown as grown
 
 use amm_model::PairRecord;
 use amm_num::{mul_div, root};
-pub use laws::{fee_keeps_backing, shares_keep_product, swap_keeps_product};
+pub use laws::{
+    fee_keeps_backing, root_meets_its_rule, shares_keep_product, swap_keeps_product,
+};
 
 // Times are kept modulo 2^32.
 const SECONDS: u64 = 0x1_0000_0000;
