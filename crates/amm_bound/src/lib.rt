@@ -109,7 +109,7 @@ pub fn legs_are_a_route()
 mod tests {
     use super::*;
     use amm_model::{PoolName, TokenName};
-    use std::alloc::{AllocGlobal, Global};
+    use std::alloc::Global;
 
     #[test]
     fn worths(rt: HostRuntime) {
@@ -118,5 +118,42 @@ mod tests {
         assert_eq!(rt; worth(3, 1000000, 4000000, 4194304, 1048576), 0);
         assert_eq!(rt; worth(1, 1000000, 1000000, 1, 2), 171158);
         assert_eq!(rt; worth(10, 1000000, 1000000, 1, 2), 167424);
+    }
+
+    // 100000 of A to T over one pool.
+    fn one_pool(alloc: Global) -> Option<Problem> {
+        let s = TokenName::read(alloc, b"A").ok()??;
+        let t = TokenName::read(alloc, b"T").ok()??;
+        let name = PoolName::of(alloc, &s, &t, 3).ok()??;
+        let mut pools = Vec::new(alloc);
+        let r = 1000000;
+        pools
+            .push(ProblemPool {
+                name,
+                r0: r,
+                r1: r,
+                b0: r,
+                b1: r,
+            })
+            .ok()?;
+        Problem::from_parts(alloc, s, t, 100000, pools).ok()?
+    }
+
+    fn bound_of_one_pool(alloc: Global, price_a: u64, price_t: u64) -> Option<u128> {
+        let problem = one_pool(alloc)?;
+        let mut list = Vec::new(alloc);
+        list.push(price_a).ok()?;
+        list.push(price_t).ok()?;
+        let prices = Prices::from_parts(list)?;
+        if prices.as_slice().len() != problem.tokens().len() {
+            return None;
+        }
+        Some(bound(&problem, &prices))
+    }
+
+    #[test]
+    fn bound_of_the_only_pool(rt: HostRuntime) {
+        assert_eq!(rt; bound_of_one_pool(rt.alloc(), 1, 2), Some(135164));
+        assert_eq!(rt; bound_of_one_pool(rt.alloc(), 0, 2), None);
     }
 }

@@ -11,16 +11,17 @@ use Rattle.amm_names.specs.Pools.{pool_token0, pool_token1}
 use Rattle.amm_model.specs.Ledger.{Ledger, Made, Pairs, transfer, retire, pair_of, with_pair}
 use Rattle.amm_model.specs.Pools.{asset0, asset1, held0, held1, supply}
 use Rattle.amm_model.specs.Operations.{free_pair, updated, renewed, is_nobody, fee_due, with_fee, after_fee, with_product, own_shares, parts_of, pay_out, burn, PerShareKept}
-use Rattle.amm_model.specs.Sound.{IsCovered, IsSoundPair, IsSound}
+use Rattle.amm_model.specs.Sound.{IsAtRest, IsCovered, IsSoundPair, IsSound}
 use Rattle.amm_pool.proofs.Products.{burned_product}
 use Rattle.amm_model.proofs.Guards.{given, not_refused, same_answer}
 use Rattle.amm_model.proofs.Names.{some_there, one_value, pair_of-set_here}
 use Rattle.amm_model.proofs.Balances.{Taken}
 use Rattle.amm_model.proofs.Transfers.{Sent, transfer_sent, retire_taken}
-use Rattle.amm_model.proofs.Soundness.{OnlyAt, only_at_then, sent_only, taken_only, share_not_token, tokens_apart}
+use Rattle.amm_model.proofs.Soundness.{OnlyAt, only_at_then, with_pair_only, sent_only, taken_only, share_not_token, tokens_apart}
+use Rattle.amm_model.proofs.Keeping.{Keeps, keeps_at, SameSettings, only_same_settings, rest_kept}
 use Rattle.amm_pair.proofs.Operations.{Found, free_found, Renewed, updated_renewed, settled_sound, IsKept}
 use Rattle.amm_pair.proofs.Minting.{covered_scaled, square_small}
-use Rattle.amm_pair.proofs.Shares.{Grown, fee_grown, grown_only, Closed, closed, fee_due_within, no_fee_due, not_zero}
+use Rattle.amm_pair.proofs.Shares.{Grown, fee_grown, grown_only, Closed, closed, same_lock, fee_due_within, no_fee_due, not_zero}
 
 -- a burn that pays out: its shares end, and then each part is sent
 pub record PaidOut (pool : List ℕ) (shares : ℕ) (parts : BurnReceipt) (old new : Ledger) : Type 0 where
@@ -106,16 +107,10 @@ burn_burned l pool to made is =
       after = ap (λ (m : Made BurnReceipt). m.ledger) (sym e);
     }
 
--- the ledger with the parts of a burn sent
-module _ (l : Ledger) (pool : List ℕ) (to : Holder) (made : Made BurnReceipt) (apart : pool_token0 pool ≢ pool_token1 pool) (sound : IsSound l) (is : burn l pool to ≡ Ok made) where
+-- what a burn leaves, whatever the ledger
+module _ (l : Ledger) (pool : List ℕ) (to : Holder) (made : Made BurnReceipt) (is : burn l pool to ≡ Ok made) where
   m : Burned l pool made.ledger made.answer
   m = burn_burned l pool to made is
-
-  before : IsSoundPair l pool m.was
-  before = sound.pairs pool m.was m.found.there
-
-  covers : IsCovered l pool m.was
-  covers = before.covered m.found.free
 
   abbrev fee : ℕ
   fee = fee_due l pool m.was
@@ -140,66 +135,87 @@ module _ (l : Ledger) (pool : List ℕ) (to : Holder) (made : Made BurnReceipt) 
   still : pair_of m.mid.pairs pool ≡ Some m.was
   still = ap (λ (ps : Pairs). pair_of ps pool) (m.paid.second.rest.pairs ∙ m.paid.first.rest.pairs ∙ m.paid.taken.rest.pairs ∙ grown.rest.pairs) ∙ m.found.there
 
-  left : supply m.mid pool + own_shares l pool ≡ s
-  left = omega (arith, m.paid.second.totals (assets.Share pool), m.paid.first.totals (assets.Share pool), m.paid.taken.whole, grown.whole)
-
-  start0 : held0 m.paid.fewer pool ≡ held0 l pool
-  start0 = m.paid.taken.others (asset0 pool) (holders.Pool pool) (share_not_token pool (pool_token0 pool)) ∙ grown.others (asset0 pool) (holders.Pool pool) (share_not_token pool (pool_token0 pool))
-
-  start1 : held1 m.paid.half pool ≡ held1 l pool
-  start1 = m.paid.first.others (asset1 pool) (holders.Pool pool) (tokens_apart (pool_token1 pool) (pool_token0 pool) (λ e. apart (sym e)))
-      ∙ m.paid.taken.others (asset1 pool) (holders.Pool pool) (share_not_token pool (pool_token1 pool)) ∙ grown.others (asset1 pool) (holders.Pool pool) (share_not_token pool (pool_token1 pool))
-
-  end0 : held0 m.mid pool ≡ held0 m.paid.half pool
-  end0 = m.paid.second.others (asset0 pool) (holders.Pool pool) (tokens_apart (pool_token0 pool) (pool_token1 pool) apart)
-
-  product : (m.was.r0 * m.was.r1) * (supply m.mid pool * supply m.mid pool) ≤ (held0 m.mid pool * held1 m.mid pool) * (s * s)
-  product =
-      let fit = parts_fit l pool s fee in
-      burned_at_most s (own_shares l pool) m.was.r0 m.was.r1 (held0 l pool) (held1 l pool) parts.amount0 parts.amount1 (held0 m.mid pool) (held1 m.mid pool) (supply m.mid pool)
-      covers.first covers.second fit.0 fit.1 (omega (arith, m.paid.first.funds, start0)) (omega (arith, m.paid.second.funds, start1))
-      (omega (arith, m.paid.first.least, start0, end0)) (omega (arith, m.paid.second.least, start1)) left
-
-  positive : 0 < s
-  positive = from_apart s m.some
-    where
-      from_apart : (k : ℕ) → k ≢ 0 → 0 < k
-      from_apart k some = omega arith
-
-  square : supply m.mid pool * supply m.mid pool ≤ held0 m.mid pool * held1 m.mid pool
-  square = covered_scaled s (supply m.mid pool) (m.was.r0 * m.was.r1) (held0 m.mid pool * held1 m.mid pool) positive (fee_due_within l pool m.was before.backed) product
-
-  kept : IsKept m.mid pool
-  kept = elim before.kept [
-    | inl none ↦ inl (omega (arith, left, no_fee_due l pool m.was none))
-    | inr some ↦ inr (omega (arith, only.zero (assets.Share pool)))
-  ]
-
   abbrev final : PairRecord
   final = with_product (is_nobody l.fee_to) (renewed (after_fee (is_nobody l.fee_to) m.was) m.mid.time (held0 m.mid pool) (held1 m.mid pool))
-
-  final_closed : Closed (supply m.mid pool) (held0 m.mid pool) (held1 m.mid pool) final
-  final_closed = closed (is_nobody l.fee_to) m.was m.mid.time (supply m.mid pool) (held0 m.mid pool) (held1 m.mid pool) before.small m.renewed.small0 m.renewed.small1 square
 
   made_is : made.ledger ≡ with_pair m.mid pool final
   made_is = m.after ∙ ap (λ (p : PairRecord). with_pair m.mid pool (with_product (is_nobody l.fee_to) p)) m.renewed.is
 
-  pub burn_sound : IsSound made.ledger
-  burn_sound = subst IsSound (sym made_is)
-      (settled_sound pool l m.mid m.was final sound m.found.there only still
-      (omega (arith, square_small (supply m.mid pool) (held0 m.mid pool) (held1 m.mid pool) square m.renewed.small0 m.renewed.small1))
-      final_closed.small final_closed.r0 final_closed.r1 final_closed.backed kept)
+  written : pair_of made.ledger.pairs pool ≡ Some final
+  written = ap (λ (k : Ledger). pair_of k.pairs pool) made_is ∙ pair_of-set_here m.mid.pairs pool final (some_there (pair_of m.mid.pairs pool) m.was still)
 
-  pub burn_per_share : PerShareKept l made.ledger pool made.answer.fee_shares
-  burn_per_share was now at_old at_new pos =
-      let written : pair_of made.ledger.pairs pool ≡ Some final =
-      ap (λ (k : Ledger). pair_of k.pairs pool) made_is ∙ pair_of-set_here m.mid.pairs pool final (some_there (pair_of m.mid.pairs pool) m.was still) in
-      let e : m.was ≡ was = one_value (pair_of l.pairs pool) m.was was m.found.there at_old in
-      let f : final ≡ now = one_value (pair_of made.ledger.pairs pool) final now written at_new in
-      let t : supply made.ledger pool ≡ supply m.mid pool = ap (λ (k : Ledger). supply k pool) made_is in
-      subst (λ (p : PairRecord). (p.r0 * p.r1) * (supply made.ledger pool * supply made.ledger pool) ≤ (now.r0 * now.r1) * ((supply l pool + made.answer.fee_shares) * (supply l pool + made.answer.fee_shares))) e
-      (subst (λ (p : PairRecord). (m.was.r0 * m.was.r1) * (supply made.ledger pool * supply made.ledger pool) ≤ (p.r0 * p.r1) * ((supply l pool + made.answer.fee_shares) * (supply l pool + made.answer.fee_shares))) f
-      (subst (λ (k : ℕ). (m.was.r0 * m.was.r1) * (supply made.ledger pool * supply made.ledger pool) ≤ (final.r0 * final.r1) * ((supply l pool + k) * (supply l pool + k))) (sym m.fee)
-      (subst (λ (k : ℕ). (m.was.r0 * m.was.r1) * (k * k) ≤ (final.r0 * final.r1) * (s * s)) (sym t)
-      (subst (λ (k : ℕ). (m.was.r0 * m.was.r1) * (supply m.mid pool * supply m.mid pool) ≤ (k * final.r1) * (s * s)) (sym final_closed.r0)
-      (subst (λ (k : ℕ). (m.was.r0 * m.was.r1) * (supply m.mid pool * supply m.mid pool) ≤ (held0 m.mid pool * k) * (s * s)) (sym final_closed.r1) product)))))
+  burn_only : OnlyAt pool l made.ledger
+  burn_only = subst (OnlyAt pool l) (sym made_is) (only_at_then pool l m.mid (with_pair m.mid pool final) only (with_pair_only m.mid pool final (some_there (pair_of m.mid.pairs pool) m.was still)))
+
+  pub burn_keeps : Keeps l made.ledger
+  burn_keeps = keeps_at pool l made.ledger m.was final burn_only m.found.there m.found.free written
+      (same_lock (is_nobody l.fee_to) m.was m.mid.time (held0 m.mid pool) (held1 m.mid pool) ∙ m.found.free)
+
+  pub burn_same_settings : SameSettings l made.ledger
+  burn_same_settings = only_same_settings pool l made.ledger burn_only
+
+  module _ (apart : pool_token0 pool ≢ pool_token1 pool) (sound : IsSound l) where
+    before : IsSoundPair l pool m.was
+    before = sound.pairs pool m.was m.found.there
+
+    covers : IsCovered l pool m.was
+    covers = before.covered m.found.free
+
+    left : supply m.mid pool + own_shares l pool ≡ s
+    left = omega (arith, m.paid.second.totals (assets.Share pool), m.paid.first.totals (assets.Share pool), m.paid.taken.whole, grown.whole)
+
+    start0 : held0 m.paid.fewer pool ≡ held0 l pool
+    start0 = m.paid.taken.others (asset0 pool) (holders.Pool pool) (share_not_token pool (pool_token0 pool)) ∙ grown.others (asset0 pool) (holders.Pool pool) (share_not_token pool (pool_token0 pool))
+
+    start1 : held1 m.paid.half pool ≡ held1 l pool
+    start1 = m.paid.first.others (asset1 pool) (holders.Pool pool) (tokens_apart (pool_token1 pool) (pool_token0 pool) (λ e. apart (sym e)))
+        ∙ m.paid.taken.others (asset1 pool) (holders.Pool pool) (share_not_token pool (pool_token1 pool)) ∙ grown.others (asset1 pool) (holders.Pool pool) (share_not_token pool (pool_token1 pool))
+
+    end0 : held0 m.mid pool ≡ held0 m.paid.half pool
+    end0 = m.paid.second.others (asset0 pool) (holders.Pool pool) (tokens_apart (pool_token0 pool) (pool_token1 pool) apart)
+
+    product : (m.was.r0 * m.was.r1) * (supply m.mid pool * supply m.mid pool) ≤ (held0 m.mid pool * held1 m.mid pool) * (s * s)
+    product =
+        let fit = parts_fit l pool s fee in
+        burned_at_most s (own_shares l pool) m.was.r0 m.was.r1 (held0 l pool) (held1 l pool) parts.amount0 parts.amount1 (held0 m.mid pool) (held1 m.mid pool) (supply m.mid pool)
+        covers.first covers.second fit.0 fit.1 (omega (arith, m.paid.first.funds, start0)) (omega (arith, m.paid.second.funds, start1))
+        (omega (arith, m.paid.first.least, start0, end0)) (omega (arith, m.paid.second.least, start1)) left
+
+    positive : 0 < s
+    positive = from_apart s m.some
+      where
+        from_apart : (k : ℕ) → k ≢ 0 → 0 < k
+        from_apart k some = omega arith
+
+    square : supply m.mid pool * supply m.mid pool ≤ held0 m.mid pool * held1 m.mid pool
+    square = covered_scaled s (supply m.mid pool) (m.was.r0 * m.was.r1) (held0 m.mid pool * held1 m.mid pool) positive (fee_due_within l pool m.was before.backed) product
+
+    kept : IsKept m.mid pool
+    kept = elim before.kept [
+      | inl none ↦ inl (omega (arith, left, no_fee_due l pool m.was none))
+      | inr some ↦ inr (omega (arith, only.zero (assets.Share pool)))
+    ]
+
+    final_closed : Closed (supply m.mid pool) (held0 m.mid pool) (held1 m.mid pool) final
+    final_closed = closed (is_nobody l.fee_to) m.was m.mid.time (supply m.mid pool) (held0 m.mid pool) (held1 m.mid pool) before.small m.renewed.small0 m.renewed.small1 square
+
+    pub burn_sound : IsSound made.ledger
+    burn_sound = subst IsSound (sym made_is)
+        (settled_sound pool l m.mid m.was final sound m.found.there only still
+        (omega (arith, square_small (supply m.mid pool) (held0 m.mid pool) (held1 m.mid pool) square m.renewed.small0 m.renewed.small1))
+        final_closed.small final_closed.r0 final_closed.r1 final_closed.backed kept)
+
+    pub burn_per_share : PerShareKept l made.ledger pool made.answer.fee_shares
+    burn_per_share was now at_old at_new pos =
+        let e : m.was ≡ was = one_value (pair_of l.pairs pool) m.was was m.found.there at_old in
+        let f : final ≡ now = one_value (pair_of made.ledger.pairs pool) final now written at_new in
+        let t : supply made.ledger pool ≡ supply m.mid pool = ap (λ (k : Ledger). supply k pool) made_is in
+        subst (λ (p : PairRecord). (p.r0 * p.r1) * (supply made.ledger pool * supply made.ledger pool) ≤ (now.r0 * now.r1) * ((supply l pool + made.answer.fee_shares) * (supply l pool + made.answer.fee_shares))) e
+        (subst (λ (p : PairRecord). (m.was.r0 * m.was.r1) * (supply made.ledger pool * supply made.ledger pool) ≤ (p.r0 * p.r1) * ((supply l pool + made.answer.fee_shares) * (supply l pool + made.answer.fee_shares))) f
+        (subst (λ (k : ℕ). (m.was.r0 * m.was.r1) * (supply made.ledger pool * supply made.ledger pool) ≤ (final.r0 * final.r1) * ((supply l pool + k) * (supply l pool + k))) (sym m.fee)
+        (subst (λ (k : ℕ). (m.was.r0 * m.was.r1) * (k * k) ≤ (final.r0 * final.r1) * (s * s)) (sym t)
+        (subst (λ (k : ℕ). (m.was.r0 * m.was.r1) * (supply m.mid pool * supply m.mid pool) ≤ (k * final.r1) * (s * s)) (sym final_closed.r0)
+        (subst (λ (k : ℕ). (m.was.r0 * m.was.r1) * (supply m.mid pool * supply m.mid pool) ≤ (held0 m.mid pool * k) * (s * s)) (sym final_closed.r1) product)))))
+
+  pub burn_rest : pool_token0 pool ≢ pool_token1 pool → IsAtRest l → IsAtRest made.ledger
+  burn_rest apart rest = rest_kept l made.ledger rest burn_keeps (burn_sound apart rest.sound)

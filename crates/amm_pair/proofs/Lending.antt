@@ -1,5 +1,5 @@
 -- What an accepted loan, its return and a swap leave.
-use Rattle.std.proofs.Common.{◌≡◌, ◌≢◌, ◌≤◌, ◌-◌, ◌*◌, ℕ, nat_le, ◌==◌, ◌&&◌, ◌||◌, not, Bool, true, false, List, Option, Some, None, Ok, refl, sym, ap, ◌∙◌, subst, arith}
+use Rattle.std.proofs.Common.{inl, inr, ◌≡◌, ◌≤◌, ◌-◌, ◌*◌, ℕ, nat_le, ◌==◌, ◌&&◌, ◌||◌, not, Bool, true, false, List, Option, Some, None, IsSome, Ok, refl, sym, ap, ◌∙◌, subst, arith}
 use Rattle.std.proofs.lemmas.Bool.Decides.{nat_tests}
 use Rattle.amm_names.specs.declared.holder.Holder.{Holder}
 use Rattle.amm_names.specs.declared.holder.Holder.TheVariants as holders
@@ -7,18 +7,19 @@ use Rattle.amm_names.specs.declared.holder.Asset.TheVariants as assets
 use Rattle.amm_model.specs.declared.pair.PairRecord.{PairRecord}
 use Rattle.amm_model.specs.declared.pair.SwapReceipt.{SwapReceipt}
 use Rattle.amm_model.specs.declared.fault.Refusal.TheVariants as code
-use Rattle.amm_names.specs.Pools.{pool_token0, pool_token1, pool_fee}
+use Rattle.amm_names.specs.Pools.{pool_fee}
 use Rattle.amm_model.specs.Swap.{admits}
 use Rattle.amm_model.specs.Ledger.{Ledger, Made, Pairs, pair_of, set_pair, with_pair, transfer}
 use Rattle.amm_model.specs.Pools.{asset0, asset1, held0, held1, supply, Terms}
 use Rattle.amm_model.specs.Operations.{if_there, free_pair, renewed, updated, locked, unlocked, is_token_of, lend, open_loan, came_in, keeps_product, give_back, swap}
-use Rattle.amm_model.specs.Sound.{IsSoundPair, IsSound, IsOpen, ProductKept}
+use Rattle.amm_model.specs.Sound.{IsSoundPair, IsSound, IsOpen, IsAtRest, ProductKept}
 use Rattle.amm_pool.proofs.Products.{product_kept}
-use Rattle.amm_model.proofs.Guards.{given, not_refused, same_answer}
-use Rattle.amm_model.proofs.Names.{some_there, one_value, pair_of-set_here}
+use Rattle.amm_model.proofs.Guards.{Given, given, not_refused, same_answer}
+use Rattle.amm_model.proofs.Names.{name_cases, some_there, one_value, pair_of-set_here}
 use Rattle.amm_model.proofs.Transfers.{transfer_sent}
-use Rattle.amm_model.proofs.Soundness.{same_only, with_pair_only, sound_but_at}
-use Rattle.amm_pair.proofs.Operations.{Found, free_found, Renewed, updated_renewed, renewed_small, backed_grown, settled_sound, BothSent, both_sent, sent_sound}
+use Rattle.amm_model.proofs.Soundness.{OnlyAt, only_at_then, same_only, with_pair_only, sound_but_at, share_not_token}
+use Rattle.amm_model.proofs.Keeping.{Keeps, keeps_same, SameSettings, same_settings, same_settings_then, only_same_settings, rest_kept}
+use Rattle.amm_pair.proofs.Operations.{Found, free_found, Renewed, updated_renewed, renewed_small, backed_grown, settled_sound, BothSent, both_only, both_pairs, sent_sound}
 
 -- what a loan leaves: the pair was free, its record is locked, and the outputs are gone
 pub record Lent (old : Ledger) (pool : List ℕ) (out0 out1 : ℕ) (made : Made PairRecord) : Type 0 where
@@ -27,10 +28,9 @@ pub record Lent (old : Ledger) (pool : List ℕ) (out0 out1 : ℕ) (made : Made 
   pub sent : BothSent pool out0 out1 (with_pair old pool (locked was)) made.ledger
   pub keeps : made.answer ≡ locked was
 
-pub lend_lent : (ledger : Ledger) (pool : List ℕ) (out0 out1 : ℕ) (to : Holder) (made : Made PairRecord) → pool_token0 pool ≢ pool_token1 pool → lend ledger pool out0 out1 to ≡ Ok made
-    → Lent ledger pool out0 out1 made
+pub lend_lent : (ledger : Ledger) (pool : List ℕ) (out0 out1 : ℕ) (to : Holder) (made : Made PairRecord) → lend ledger pool out0 out1 to ≡ Ok made → Lent ledger pool out0 out1 made
 unfolding lend
-lend_lent ledger pool out0 out1 to made apart is =
+lend_lent ledger pool out0 out1 to made is =
     let first = given (free_pair ledger pool) _ made is in
     let was : PairRecord = first.value in
     let asked = not_refused (out0 == 0 && out1 == 0) code.InsufficientOutputAmount _ made first.after in
@@ -44,9 +44,11 @@ lend_lent ledger pool out0 out1 to made apart is =
       was = was;
       found = free_found ledger pool was first.was;
       sent = subst (λ (m : Made PairRecord). BothSent pool out0 out1 start m.ledger) e
-          (both_sent pool out0 out1 start second.value.ledger third.value.ledger apart
-          (transfer_sent start (asset0 pool) (holders.Pool pool) to out0 second.value second.was)
-          (transfer_sent second.value.ledger (asset1 pool) (holders.Pool pool) to out1 third.value third.was));
+          record {
+            half = second.value.ledger;
+            first = transfer_sent start (asset0 pool) (holders.Pool pool) to out0 second.value second.was;
+            second = transfer_sent second.value.ledger (asset1 pool) (holders.Pool pool) to out1 third.value third.was;
+          };
       keeps = ap (λ (m : Made PairRecord). m.answer) (sym e);
     }
 
@@ -71,20 +73,19 @@ locked_sound ledger pool was sound at =
 
 -- the record of the pool while it lends
 pub lent_there : (old : Ledger) (pool : List ℕ) (out0 out1 : ℕ) (made : Made PairRecord) (l : Lent old pool out0 out1 made) → pair_of made.ledger.pairs pool ≡ Some (locked l.was)
-lent_there old pool out0 out1 made l = ap (λ (ps : Pairs). pair_of ps pool) l.sent.pairs ∙ pair_of-set_here old.pairs pool (locked l.was) (some_there (pair_of old.pairs pool) l.was l.found.there)
+lent_there old pool out0 out1 made l = ap (λ (ps : Pairs). pair_of ps pool) (both_pairs pool out0 out1 (with_pair old pool (locked l.was)) made.ledger l.sent) ∙ pair_of-set_here old.pairs pool (locked l.was) (some_there (pair_of old.pairs pool) l.was l.found.there)
 
-pub lend_sound : (ledger : Ledger) (pool : List ℕ) (out0 out1 : ℕ) (to : Holder) (made : Made PairRecord) → pool_token0 pool ≢ pool_token1 pool → IsSound ledger → lend ledger pool out0 out1 to ≡ Ok made
-    → IsSound made.ledger
-lend_sound ledger pool out0 out1 to made apart sound is =
-    let l = lend_lent ledger pool out0 out1 to made apart is in
+pub lend_sound : (ledger : Ledger) (pool : List ℕ) (out0 out1 : ℕ) (to : Holder) (made : Made PairRecord) → IsSound ledger → lend ledger pool out0 out1 to ≡ Ok made → IsSound made.ledger
+lend_sound ledger pool out0 out1 to made sound is =
+    let l = lend_lent ledger pool out0 out1 to made is in
     let start = locked_sound ledger pool l.was sound l.found.there in
     sent_sound pool out0 out1 (with_pair ledger pool (locked l.was)) made.ledger (locked l.was) start
     (pair_of-set_here ledger.pairs pool (locked l.was) (some_there (pair_of ledger.pairs pool) l.was l.found.there)) l.sent (λ free. cc)
 
-pub lend_open : (ledger : Ledger) (pool : List ℕ) (out0 out1 : ℕ) (to : Holder) (made : Made PairRecord) → pool_token0 pool ≢ pool_token1 pool → lend ledger pool out0 out1 to ≡ Ok made
+pub lend_open : (ledger : Ledger) (pool : List ℕ) (out0 out1 : ℕ) (to : Holder) (made : Made PairRecord) → lend ledger pool out0 out1 to ≡ Ok made
     → IsOpen made.ledger (record { pool = pool; out0 = out0; out1 = out1; pair = made.answer })
-lend_open ledger pool out0 out1 to made apart is =
-    let l = lend_lent ledger pool out0 out1 to made apart is in
+lend_open ledger pool out0 out1 to made is =
+    let l = lend_lent ledger pool out0 out1 to made is in
     record { there = lent_there ledger pool out0 out1 made l ∙ ap Some (sym l.keeps); locked = ap (λ (p : PairRecord). p.locked) l.keeps }
 
 -- what a return leaves: the pair is free, its reserves are what the pool has, and the product did not fall
@@ -153,28 +154,88 @@ give_back_product ledger pool out0 out1 made is was now at_old at_new =
     subst (λ (p : PairRecord). p.r0 * p.r1 ≤ now.r0 * now.r1) e (subst (λ (p : PairRecord). back.was.r0 * back.was.r1 ≤ p.r0 * p.r1) f back.product)
 
 -- a swap is a loan that is returned at once
-pub swap_sound : (ledger : Ledger) (pool : List ℕ) (out0 out1 : ℕ) (to : Holder) (made : Made SwapReceipt) → pool_token0 pool ≢ pool_token1 pool → IsSound ledger → swap ledger pool out0 out1 to ≡ Ok made
+pub swap_sound : (ledger : Ledger) (pool : List ℕ) (out0 out1 : ℕ) (to : Holder) (made : Made SwapReceipt) → IsSound ledger → swap ledger pool out0 out1 to ≡ Ok made
     → IsSound made.ledger
 unfolding swap
-swap_sound ledger pool out0 out1 to made apart sound is =
+swap_sound ledger pool out0 out1 to made sound is =
     let lent = given (lend ledger pool out0 out1 to) _ made is in
-    give_back_sound lent.value.ledger pool out0 out1 made (lend_sound ledger pool out0 out1 to lent.value apart sound lent.was) lent.after
+    give_back_sound lent.value.ledger pool out0 out1 made (lend_sound ledger pool out0 out1 to lent.value sound lent.was) lent.after
 
-pub swap_product : (ledger : Ledger) (pool : List ℕ) (out0 out1 : ℕ) (to : Holder) (made : Made SwapReceipt) → pool_token0 pool ≢ pool_token1 pool → swap ledger pool out0 out1 to ≡ Ok made
+pub swap_product : (ledger : Ledger) (pool : List ℕ) (out0 out1 : ℕ) (to : Holder) (made : Made SwapReceipt) → swap ledger pool out0 out1 to ≡ Ok made
     → ProductKept ledger made.ledger pool
 unfolding swap
-swap_product ledger pool out0 out1 to made apart is was now at_old at_new =
+swap_product ledger pool out0 out1 to made is was now at_old at_new =
     let lent = given (lend ledger pool out0 out1 to) _ made is in
-    let l = lend_lent ledger pool out0 out1 to lent.value apart lent.was in
+    let l = lend_lent ledger pool out0 out1 to lent.value lent.was in
     let e : l.was ≡ was = one_value (pair_of ledger.pairs pool) l.was was l.found.there at_old in
     let kept = give_back_product lent.value.ledger pool out0 out1 made lent.after (locked l.was) now (lent_there ledger pool out0 out1 lent.value l) at_new in
     subst (λ (p : PairRecord). p.r0 * p.r1 ≤ now.r0 * now.r1) e kept
 
 -- a loan with its terms is a loan
-pub open_loan_opened : (ledger : Ledger) (pool : List ℕ) (out0 out1 : ℕ) (to : Holder) (made : Made Terms) → pool_token0 pool ≢ pool_token1 pool → IsSound ledger → open_loan ledger pool out0 out1 to ≡ Ok made
+pub open_loan_opened : (ledger : Ledger) (pool : List ℕ) (out0 out1 : ℕ) (to : Holder) (made : Made Terms) → IsSound ledger → open_loan ledger pool out0 out1 to ≡ Ok made
     → IsSound made.ledger × IsOpen made.ledger made.answer
-open_loan_opened ledger pool out0 out1 to made apart sound is =
+open_loan_opened ledger pool out0 out1 to made sound is =
     let lent = given (lend ledger pool out0 out1 to) _ made is in
     let e = same_answer (record { ledger = lent.value.ledger; answer = record { pool = pool; out0 = out0; out1 = out1; pair = lent.value.answer } }) made lent.after in
     subst (λ (m : Made Terms). IsSound m.ledger × IsOpen m.ledger m.answer) e
-    (lend_sound ledger pool out0 out1 to lent.value apart sound lent.was, lend_open ledger pool out0 out1 to lent.value apart lent.was)
+    (lend_sound ledger pool out0 out1 to lent.value sound lent.was, lend_open ledger pool out0 out1 to lent.value lent.was)
+
+-- ---- what a loan and a swap keep
+
+free_and_locked : (x y : PairRecord) → x.locked ≡ false → x ≡ y → y.locked ≡ true → ⊥
+free_and_locked x y free same shut = let e : y.locked ≡ false = ap (λ (p : PairRecord). p.locked) (sym same) ∙ free in cc
+
+-- a loan that is returned, where what came between kept the locks
+module _ (ledger : Ledger) (pool : List ℕ) (out0 out1 : ℕ) (to : Holder) (lent : Made PairRecord) (lends : lend ledger pool out0 out1 to ≡ Ok lent)
+    (back : Ledger) (made : Made SwapReceipt) (returns : give_back back pool out0 out1 ≡ Ok made) where
+  l : Lent ledger pool out0 out1 lent
+  l = lend_lent ledger pool out0 out1 to lent lends
+
+  b : Returned back pool made.ledger
+  b = give_back_returned back pool out0 out1 made returns
+
+  lent_only : OnlyAt pool ledger lent.ledger
+  lent_only = only_at_then pool ledger (with_pair ledger pool (locked l.was)) lent.ledger
+      (with_pair_only ledger pool (locked l.was) (some_there (pair_of ledger.pairs pool) l.was l.found.there)) (both_only pool out0 out1 (with_pair ledger pool (locked l.was)) lent.ledger l.sent)
+
+  returned_only : OnlyAt pool back made.ledger
+  returned_only = subst (OnlyAt pool back) (sym b.after) (with_pair_only back pool (unlocked b.now) (some_there (pair_of back.pairs pool) b.was b.there))
+
+  written : pair_of made.ledger.pairs pool ≡ Some (unlocked b.now)
+  written = ap (λ (k : Ledger). pair_of k.pairs pool) b.after ∙ pair_of-set_here back.pairs pool (unlocked b.now) (some_there (pair_of back.pairs pool) b.was b.there)
+
+  pub loan_keeps : Keeps lent.ledger back → Keeps ledger made.ledger
+  loan_keeps between = record {
+    stays = λ other is. elim (name_cases other pool) [
+      | inl e ↦ some_there (pair_of made.ledger.pairs other) (unlocked b.now) (ap (pair_of made.ledger.pairs) e ∙ written)
+      | inr apart ↦ subst (λ (o : Option PairRecord). IsSome o) (sym (returned_only.pairs other apart)) (between.stays other (subst (λ (o : Option PairRecord). IsSome o) (sym (lent_only.pairs other apart)) is))
+    ];
+    locked = λ other pair is shut. elim (name_cases other pool) [
+      | inl e ↦ absurd (free_and_locked l.was pair l.found.free (one_value (pair_of ledger.pairs pool) l.was pair l.found.there (ap (pair_of ledger.pairs) (sym e) ∙ is)) shut)
+      | inr apart ↦ returned_only.pairs other apart ∙ between.locked other pair (lent_only.pairs other apart ∙ is) shut
+    ];
+    no_other = λ other pair is shut. elim (name_cases other pool) [
+      | inl e ↦ absurd (free_and_locked (unlocked b.now) pair refl (one_value (pair_of made.ledger.pairs pool) (unlocked b.now) pair written (ap (pair_of made.ledger.pairs) (sym e) ∙ is)) shut)
+      | inr apart ↦ sym (lent_only.pairs other apart) ∙ between.no_other other pair (sym (returned_only.pairs other apart) ∙ is) shut
+    ];
+    zero = λ q. omega (arith, lent_only.zero q, between.zero q, returned_only.zero q);
+    totals = λ token. returned_only.totals (assets.Token token) (share_not_token pool token) ∙ between.totals token ∙ lent_only.totals (assets.Token token) (share_not_token pool token);
+  }
+
+  pub loan_same_settings : SameSettings lent.ledger back → SameSettings ledger made.ledger
+  loan_same_settings between =
+      same_settings_then ledger lent.ledger made.ledger (only_same_settings pool ledger lent.ledger lent_only) (same_settings_then lent.ledger back made.ledger between (only_same_settings pool back made.ledger returned_only))
+
+module _ (ledger : Ledger) (pool : List ℕ) (out0 out1 : ℕ) (to : Holder) (made : Made SwapReceipt) (is : swap ledger pool out0 out1 to ≡ Ok made) where
+  both : Given (lend ledger pool out0 out1 to) (λ lent. give_back lent.ledger pool out0 out1) made
+  unfolding swap
+  both = given (lend ledger pool out0 out1 to) (λ lent. give_back lent.ledger pool out0 out1) made is
+
+  pub swap_keeps : Keeps ledger made.ledger
+  swap_keeps = loan_keeps ledger pool out0 out1 to both.value both.was both.value.ledger made both.after (keeps_same both.value.ledger)
+
+  pub swap_same_settings : SameSettings ledger made.ledger
+  swap_same_settings = loan_same_settings ledger pool out0 out1 to both.value both.was both.value.ledger made both.after (same_settings both.value.ledger)
+
+  pub swap_rest : IsAtRest ledger → IsAtRest made.ledger
+  swap_rest rest = rest_kept ledger made.ledger rest swap_keeps (swap_sound ledger pool out0 out1 to made rest.sound is)

@@ -15,10 +15,11 @@ use Rattle.amm_model.specs.Formulas.{IsBacked, grown}
 use Rattle.amm_model.specs.Ledger.{Ledger, Made, Pairs, balance, total, total_limit, pair_of, set_pair, with_pair, transfer, is_listed}
 use Rattle.amm_model.specs.Pools.{asset0, asset1, held0, held1, supply, first_locked, reserve_limit}
 use Rattle.amm_model.specs.Operations.{if_free, free_pair, renewed, updated, sync, skim, excess}
-use Rattle.amm_model.specs.Sound.{IsSmall, IsCovered, IsSoundPair, IsSound}
+use Rattle.amm_model.specs.Sound.{IsSmall, IsCovered, IsSoundPair, IsSound, IsAtRest}
 use Rattle.amm_model.proofs.Guards.{given, past_refusal, same_answer}
 use Rattle.amm_model.proofs.Names.{some_there, one_value, pair_of-set_here}
 use Rattle.amm_model.proofs.Transfers.{Sent, transfer_sent}
+use Rattle.amm_model.proofs.Keeping.{Keeps, keeps_at, SameSettings, only_same_settings, rest_kept}
 use Rattle.amm_model.proofs.Soundness.{OnlyAt, only_at_then, same_only, with_pair_only, sent_only, sound_but_at, tokens_apart}
 
 -- a pair that was there and free
@@ -139,28 +140,36 @@ sync_sound ledger pool made sound is =
 
 -- two transfers of a pool, one of each of its tokens
 pub record BothSent (pool : List ℕ) (n0 n1 : ℕ) (old new : Ledger) : Type 0 where
-  pub only : OnlyAt pool old new
-  pub pairs : new.pairs ≡ old.pairs
-  pub totals : (q : Asset) → total new q ≡ total old q
-  pub least0 : held0 old pool ≤ held0 new pool + n0
-  pub least1 : held1 old pool ≤ held1 new pool + n1
-  pub funds0 : n0 ≤ held0 old pool
-  pub funds1 : n1 ≤ held1 old pool
+  pub half : Ledger
+  pub first : Sent (asset0 pool) (holders.Pool pool) n0 old half
+  pub second : Sent (asset1 pool) (holders.Pool pool) n1 half new
 
-pub both_sent : (pool : List ℕ) (n0 n1 : ℕ) (old mid new : Ledger) → pool_token0 pool ≢ pool_token1 pool → Sent (asset0 pool) (holders.Pool pool) n0 old mid
-    → Sent (asset1 pool) (holders.Pool pool) n1 mid new → BothSent pool n0 n1 old new
-both_sent pool n0 n1 old mid new apart first second =
-    let same1 : held1 mid pool ≡ held1 old pool = first.others (asset1 pool) (holders.Pool pool) (tokens_apart (pool_token1 pool) (pool_token0 pool) (λ e. apart (sym e))) in
-    let same0 : held0 new pool ≡ held0 mid pool = second.others (asset0 pool) (holders.Pool pool) (tokens_apart (pool_token0 pool) (pool_token1 pool) apart) in
-    record {
-      only = only_at_then pool old mid new (sent_only (asset0 pool) pool n0 old mid first) (sent_only (asset1 pool) pool n1 mid new second);
-      pairs = second.rest.pairs ∙ first.rest.pairs;
-      totals = λ q. second.totals q ∙ first.totals q;
-      least0 = omega (arith, first.least, same0);
-      least1 = omega (arith, second.least, same1);
-      funds0 = first.funds;
-      funds1 = omega (arith, second.funds, same1);
-    }
+module _ (pool : List ℕ) (n0 n1 : ℕ) (old new : Ledger) (sent : BothSent pool n0 n1 old new) where
+  pub both_only : OnlyAt pool old new
+  both_only = only_at_then pool old sent.half new (sent_only (asset0 pool) pool n0 old sent.half sent.first) (sent_only (asset1 pool) pool n1 sent.half new sent.second)
+
+  pub both_pairs : new.pairs ≡ old.pairs
+  both_pairs = sent.second.rest.pairs ∙ sent.first.rest.pairs
+
+  pub both_totals : (q : Asset) → total new q ≡ total old q
+  both_totals q = sent.second.totals q ∙ sent.first.totals q
+
+  -- since the tokens differ, neither transfer touches the other's balance
+  module _ (apart : pool_token0 pool ≢ pool_token1 pool) where
+    same1 : held1 sent.half pool ≡ held1 old pool
+    same1 = sent.first.others (asset1 pool) (holders.Pool pool) (tokens_apart (pool_token1 pool) (pool_token0 pool) (λ e. apart (sym e)))
+
+    same0 : held0 new pool ≡ held0 sent.half pool
+    same0 = sent.second.others (asset0 pool) (holders.Pool pool) (tokens_apart (pool_token0 pool) (pool_token1 pool) apart)
+
+    pub least0 : held0 old pool ≤ held0 new pool + n0
+    least0 = omega (arith, sent.first.least, same0)
+
+    pub least1 : held1 old pool ≤ held1 new pool + n1
+    least1 = omega (arith, sent.second.least, same1)
+
+    pub funds1 : n1 ≤ held1 old pool
+    funds1 = omega (arith, sent.second.funds, same1)
 
 -- what a skim leaves
 pub record Skimmed (old : Ledger) (pool : List ℕ) (made : Ledger) : Type 0 where
@@ -168,9 +177,9 @@ pub record Skimmed (old : Ledger) (pool : List ℕ) (made : Ledger) : Type 0 whe
   pub found : Found old pool was
   pub sent : BothSent pool (held0 old pool - was.r0) (held1 old pool - was.r1) old made
 
-pub skim_skimmed : (ledger : Ledger) (pool : List ℕ) (to : Holder) (made : Made SkimReceipt) → pool_token0 pool ≢ pool_token1 pool → skim ledger pool to ≡ Ok made → Skimmed ledger pool made.ledger
+pub skim_skimmed : (ledger : Ledger) (pool : List ℕ) (to : Holder) (made : Made SkimReceipt) → skim ledger pool to ≡ Ok made → Skimmed ledger pool made.ledger
 unfolding skim
-skim_skimmed ledger pool to made apart is =
+skim_skimmed ledger pool to made is =
     let first = given (free_pair ledger pool) _ made is in
     let n0 : ℕ = held0 ledger pool - first.value.r0 in
     let n1 : ℕ = held1 ledger pool - first.value.r1 in
@@ -181,9 +190,11 @@ skim_skimmed ledger pool to made apart is =
       was = first.value;
       found = free_found ledger pool first.value first.was;
       sent = subst (λ (m : Made SkimReceipt). BothSent pool n0 n1 ledger m.ledger) e
-          (both_sent pool n0 n1 ledger second.value.ledger third.value.ledger apart
-          (transfer_sent ledger (asset0 pool) (holders.Pool pool) to n0 second.value second.was)
-          (transfer_sent second.value.ledger (asset1 pool) (holders.Pool pool) to n1 third.value third.was));
+          record {
+            half = second.value.ledger;
+            first = transfer_sent ledger (asset0 pool) (holders.Pool pool) to n0 second.value second.was;
+            second = transfer_sent second.value.ledger (asset1 pool) (holders.Pool pool) to n1 third.value third.was;
+          };
     }
 
 -- a pool that is still covered after it sent something
@@ -191,23 +202,63 @@ pub sent_sound : (pool : List ℕ) (n0 n1 : ℕ) (old new : Ledger) (was : PairR
     → (was.locked ≡ false → IsCovered new pool was) → IsSound new
 sent_sound pool n0 n1 old new was sound at sent covered =
     let before = sound.pairs pool was at in
-    let still : pair_of new.pairs pool ≡ Some was = ap (λ (ps : Pairs). pair_of ps pool) sent.pairs ∙ at in
-    let same : supply new pool ≡ supply old pool = sent.totals (assets.Share pool) in
+    let still : pair_of new.pairs pool ≡ Some was = ap (λ (ps : Pairs). pair_of ps pool) (both_pairs pool n0 n1 old new sent) ∙ at in
+    let only = both_only pool n0 n1 old new sent in
+    let same : supply new pool ≡ supply old pool = both_totals pool n0 n1 old new sent (assets.Share pool) in
     let this : IsSoundPair new pool was = record {
-      listed = subst (λ (ts : List (List ℕ)). (is_listed ts (pool_token0 pool) ≡ true) × (is_listed ts (pool_token1 pool) ≡ true)) (sym sent.only.tokens) before.listed;
+      listed = subst (λ (ts : List (List ℕ)). (is_listed ts (pool_token0 pool) ≡ true) × (is_listed ts (pool_token1 pool) ≡ true)) (sym only.tokens) before.listed;
       small = before.small;
       covered = covered;
       backed = subst (λ (s : ℕ). IsBacked s was.r0 was.r1 was.k_last) (sym same) before.backed;
-      kept = elim before.kept [ inl none ↦ inl (same ∙ none) | inr some ↦ inr (omega (arith, sent.only.zero (assets.Share pool))) ];
+      kept = elim before.kept [ inl none ↦ inl (same ∙ none) | inr some ↦ inr (omega (arith, only.zero (assets.Share pool))) ];
     } in
-    sound_but_at pool old new sound sent.only
+    sound_but_at pool old new sound only
     (record { there = some_there (pair_of new.pairs pool) was still; limit = omega (arith, same, sound.totals (assets.Share pool)) })
     (λ pair is. subst (λ (p : PairRecord). IsSoundPair new pool p) (one_value (pair_of new.pairs pool) was pair still is) this)
 
 pub skim_sound : (ledger : Ledger) (pool : List ℕ) (to : Holder) (made : Made SkimReceipt) → pool_token0 pool ≢ pool_token1 pool → IsSound ledger → skim ledger pool to ≡ Ok made → IsSound made.ledger
 skim_sound ledger pool to made apart sound is =
-    let done = skim_skimmed ledger pool to made apart is in
+    let done = skim_skimmed ledger pool to made is in
     let before = sound.pairs pool done.was done.found.there in
     let covers = before.covered done.found.free in
-    sent_sound pool _ _ ledger made.ledger done.was sound done.found.there done.sent
-    (λ free. record { first = omega (arith, done.sent.least0, covers.first); second = omega (arith, done.sent.least1, covers.second) })
+    let n0 : ℕ = held0 ledger pool - done.was.r0 in
+    let n1 : ℕ = held1 ledger pool - done.was.r1 in
+    sent_sound pool n0 n1 ledger made.ledger done.was sound done.found.there done.sent
+    (λ free. record { first = omega (arith, least0 pool n0 n1 ledger made.ledger done.sent apart, covers.first); second = omega (arith, least1 pool n0 n1 ledger made.ledger done.sent apart, covers.second) })
+
+-- ---- what a sync and a skim keep
+
+module _ (ledger : Ledger) (pool : List ℕ) (made : Made (Unit {0})) (is : sync ledger pool ≡ Ok made) where
+  synced : Synced ledger pool made.ledger
+  synced = sync_synced ledger pool made is
+
+  sync_only : OnlyAt pool ledger made.ledger
+  sync_only = subst (OnlyAt pool ledger) (sym synced.after) (with_pair_only ledger pool synced.now (some_there (pair_of ledger.pairs pool) synced.was synced.found.there))
+
+  pub sync_keeps : Keeps ledger made.ledger
+  sync_keeps =
+      keeps_at pool ledger made.ledger synced.was synced.now sync_only synced.found.there synced.found.free
+      (ap (λ (l : Ledger). pair_of l.pairs pool) synced.after ∙ pair_of-set_here ledger.pairs pool synced.now (some_there (pair_of ledger.pairs pool) synced.was synced.found.there))
+      (ap (λ (p : PairRecord). p.locked) synced.renewed.is ∙ synced.found.free)
+
+  pub sync_same_settings : SameSettings ledger made.ledger
+  sync_same_settings = only_same_settings pool ledger made.ledger sync_only
+
+  pub sync_rest : IsAtRest ledger → IsAtRest made.ledger
+  sync_rest rest = rest_kept ledger made.ledger rest sync_keeps (sync_sound ledger pool made rest.sound is)
+
+module _ (ledger : Ledger) (pool : List ℕ) (to : Holder) (made : Made SkimReceipt) (is : skim ledger pool to ≡ Ok made) where
+  skimmed : Skimmed ledger pool made.ledger
+  skimmed = skim_skimmed ledger pool to made is
+
+  skim_only : OnlyAt pool ledger made.ledger
+  skim_only = both_only pool (held0 ledger pool - skimmed.was.r0) (held1 ledger pool - skimmed.was.r1) ledger made.ledger skimmed.sent
+
+  pub skim_keeps : Keeps ledger made.ledger
+  skim_keeps = keeps_at pool ledger made.ledger skimmed.was skimmed.was skim_only skimmed.found.there skimmed.found.free (ap (λ (ps : Pairs). pair_of ps pool) (both_pairs pool _ _ ledger made.ledger skimmed.sent) ∙ skimmed.found.there) skimmed.found.free
+
+  pub skim_same_settings : SameSettings ledger made.ledger
+  skim_same_settings = only_same_settings pool ledger made.ledger skim_only
+
+  pub skim_rest : pool_token0 pool ≢ pool_token1 pool → IsAtRest ledger → IsAtRest made.ledger
+  skim_rest apart rest = rest_kept ledger made.ledger rest skim_keeps (skim_sound ledger pool to made apart rest.sound is)

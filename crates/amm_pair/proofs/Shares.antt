@@ -18,12 +18,13 @@ use Rattle.amm_model.specs.Root.{root_of}
 use Rattle.amm_model.specs.Ledger.{Ledger, Made, Pairs, balance, total, total_limit, added, pair_of, with_pair}
 use Rattle.amm_model.specs.Pools.{asset0, asset1, held0, held1, supply, first_locked, reserve_limit}
 use Rattle.amm_model.specs.Operations.{free_pair, renewed, updated, is_nobody, fee_due, with_fee, after_fee, with_product, shares_for, with_shares, minted, mint, PerShareKept}
-use Rattle.amm_model.specs.Sound.{IsSmall, IsCovered, IsSoundPair, IsSound}
+use Rattle.amm_model.specs.Sound.{IsAtRest, IsSmall, IsCovered, IsSoundPair, IsSound}
 use Rattle.amm_model.proofs.LedgerLemmas.{balance_within_total}
 use Rattle.amm_model.proofs.Guards.{given, not_refused, same_answer}
 use Rattle.amm_model.proofs.Names.{some_there, one_value, pair_of-set_here}
 use Rattle.amm_model.proofs.Balances.{Rest, rest_then, rest_same, Added, added_added}
-use Rattle.amm_model.proofs.Soundness.{OnlyAt, share_not_token}
+use Rattle.amm_model.proofs.Soundness.{OnlyAt, only_at_then, with_pair_only, share_not_token}
+use Rattle.amm_model.proofs.Keeping.{Keeps, keeps_at, SameSettings, only_same_settings, rest_kept}
 use Rattle.amm_pair.proofs.Operations.{Found, free_found, Renewed, updated_renewed, renewed_small, settled_sound, IsKept}
 use Rattle.amm_pair.proofs.Minting.{fee_within, no_fee, square_within, square_small, minted_square, locked_first, later_product}
 
@@ -148,6 +149,11 @@ closed false pair time s b0 b1 small s0 s1 square =
       backed = record { backed = square; kept = λ some. (square, omega arith) };
     }
 
+-- and its lock is as it was
+pub same_lock : (nobody : Bool) (pair : PairRecord) (time b0 b1 : ℕ) → (with_product nobody (renewed (after_fee nobody pair) time b0 b1)).locked ≡ pair.locked
+same_lock true pair time b0 b1 = refl
+same_lock false pair time b0 b1 = refl
+
 pub fee_due_within : (l : Ledger) (pool : List ℕ) (pair : PairRecord) → IsBacked (supply l pool) pair.r0 pair.r1 pair.k_last
     → (supply l pool + fee_due l pool pair) * (supply l pool + fee_due l pool pair) ≤ pair.r0 * pair.r1
 unfolding fee_due
@@ -227,16 +233,10 @@ shares_product l pool pair s pos cover0 cover1 = by_test (s == 0) refl
         let e1 : pair.r1 + (held1 l pool - pair.r1) ≡ held1 l pool = omega arith in
         rw whole (rw (e0, e1) at (later_product s pair.r0 pair.r1 (held0 l pool - pair.r0) (held1 l pool - pair.r1)))
 
--- the ledger with the shares of a mint
-module _ (l : Ledger) (pool : List ℕ) (to : Holder) (made : Made MintReceipt) (sound : IsSound l) (is : mint l pool to ≡ Ok made) where
+-- what a mint leaves, whatever the ledger
+module _ (l : Ledger) (pool : List ℕ) (to : Holder) (made : Made MintReceipt) (is : mint l pool to ≡ Ok made) where
   m : Minted l pool to made.ledger made.answer
   m = mint_minted l pool to made is
-
-  before : IsSoundPair l pool m.was
-  before = sound.pairs pool m.was m.found.there
-
-  covers : IsCovered l pool m.was
-  covers = before.covered m.found.free
 
   abbrev fee : ℕ
   fee = fee_due l pool m.was
@@ -254,33 +254,8 @@ module _ (l : Ledger) (pool : List ℕ) (to : Holder) (made : Made MintReceipt) 
   grown = subst (λ (k : Ledger). Grown pool (fee + (n + locked_first s)) l k) (sym m.mid_is)
       (grown_then pool fee (n + locked_first s) l (with_fee l pool fee) (minted l pool to fee n) (fee_grown l pool fee) shared.grown)
 
-  same0 : held0 m.mid pool ≡ held0 l pool
-  same0 = grown.others (asset0 pool) (holders.Pool pool) (share_not_token pool (pool_token0 pool))
-
-  same1 : held1 m.mid pool ≡ held1 l pool
-  same1 = grown.others (asset1 pool) (holders.Pool pool) (share_not_token pool (pool_token1 pool))
-
-  whole : supply m.mid pool ≡ s + (n + locked_first s)
-  whole = omega (arith, grown.whole)
-
-  square : supply m.mid pool * supply m.mid pool ≤ held0 m.mid pool * held1 m.mid pool
-  square =
-      let old = shares_square l pool m.was s covers.first covers.second (fee_due_within l pool m.was before.backed) m.some in
-      subst (λ (k : ℕ). k * k ≤ held0 m.mid pool * held1 m.mid pool) (sym whole)
-      (subst (λ (k : ℕ). (s + (n + locked_first s)) * (s + (n + locked_first s)) ≤ k * held1 m.mid pool) (sym same0)
-      (subst (λ (k : ℕ). (s + (n + locked_first s)) * (s + (n + locked_first s)) ≤ held0 l pool * k) (sym same1) old))
-
-  kept : IsKept m.mid pool
-  kept = elim before.kept [
-    | inl none ↦ inr (subst (λ (k : Ledger). first_locked ≤ balance k (assets.Share pool) holders.Zero) (sym m.mid_is) (shared.first (omega (arith, no_fee_due l pool m.was none))))
-    | inr some ↦ inr (omega (arith, grown.grown (assets.Share pool) holders.Zero))
-  ]
-
   abbrev final : PairRecord
   final = with_product (is_nobody l.fee_to) (renewed (after_fee (is_nobody l.fee_to) m.was) m.mid.time (held0 m.mid pool) (held1 m.mid pool))
-
-  final_closed : Closed (supply m.mid pool) (held0 m.mid pool) (held1 m.mid pool) final
-  final_closed = closed (is_nobody l.fee_to) m.was m.mid.time (supply m.mid pool) (held0 m.mid pool) (held1 m.mid pool) before.small m.renewed.small0 m.renewed.small1 square
 
   made_is : made.ledger ≡ with_pair m.mid pool final
   made_is = m.after ∙ ap (λ (p : PairRecord). with_pair m.mid pool (with_product (is_nobody l.fee_to) p)) m.renewed.is
@@ -288,25 +263,72 @@ module _ (l : Ledger) (pool : List ℕ) (to : Holder) (made : Made MintReceipt) 
   still : pair_of m.mid.pairs pool ≡ Some m.was
   still = ap (λ (ps : Pairs). pair_of ps pool) grown.rest.pairs ∙ m.found.there
 
-  pub mint_sound : IsSound made.ledger
-  mint_sound = subst IsSound (sym made_is)
-      (settled_sound pool l m.mid m.was final sound m.found.there (grown_only pool (fee + (n + locked_first s)) l m.mid grown) still
-      (omega (arith, square_small (supply m.mid pool) (held0 m.mid pool) (held1 m.mid pool) square m.renewed.small0 m.renewed.small1))
-      final_closed.small final_closed.r0 final_closed.r1 final_closed.backed kept)
+  written : pair_of made.ledger.pairs pool ≡ Some final
+  written = ap (λ (k : Ledger). pair_of k.pairs pool) made_is ∙ pair_of-set_here m.mid.pairs pool final (some_there (pair_of m.mid.pairs pool) m.was still)
 
-  pub mint_per_share : PerShareKept l made.ledger pool made.answer.fee_shares
-  mint_per_share was now at_old at_new pos =
-      let written : pair_of made.ledger.pairs pool ≡ Some final =
-      ap (λ (k : Ledger). pair_of k.pairs pool) made_is ∙ pair_of-set_here m.mid.pairs pool final (some_there (pair_of m.mid.pairs pool) m.was still) in
-      let e : m.was ≡ was = one_value (pair_of l.pairs pool) m.was was m.found.there at_old in
-      let f : final ≡ now = one_value (pair_of made.ledger.pairs pool) final now written at_new in
-      let t : supply made.ledger pool ≡ s + (n + locked_first s) = ap (λ (k : Ledger). supply k pool) made_is ∙ whole in
-      let product = shares_product l pool m.was s (subst (λ (k : ℕ). 0 < supply l pool + k) m.fee pos) covers.first covers.second in
-      let b0 : final.r0 ≡ held0 l pool = final_closed.r0 ∙ same0 in
-      let b1 : final.r1 ≡ held1 l pool = final_closed.r1 ∙ same1 in
-      subst (λ (p : PairRecord). (p.r0 * p.r1) * (supply made.ledger pool * supply made.ledger pool) ≤ (now.r0 * now.r1) * ((supply l pool + made.answer.fee_shares) * (supply l pool + made.answer.fee_shares))) e
-      (subst (λ (p : PairRecord). (m.was.r0 * m.was.r1) * (supply made.ledger pool * supply made.ledger pool) ≤ (p.r0 * p.r1) * ((supply l pool + made.answer.fee_shares) * (supply l pool + made.answer.fee_shares))) f
-      (subst (λ (k : ℕ). (m.was.r0 * m.was.r1) * (supply made.ledger pool * supply made.ledger pool) ≤ (final.r0 * final.r1) * ((supply l pool + k) * (supply l pool + k))) (sym m.fee)
-      (subst (λ (k : ℕ). (m.was.r0 * m.was.r1) * (k * k) ≤ (final.r0 * final.r1) * (s * s)) (sym t)
-      (subst (λ (k : ℕ). (m.was.r0 * m.was.r1) * ((s + (n + locked_first s)) * (s + (n + locked_first s))) ≤ (k * final.r1) * (s * s)) (sym b0)
-      (subst (λ (k : ℕ). (m.was.r0 * m.was.r1) * ((s + (n + locked_first s)) * (s + (n + locked_first s))) ≤ (held0 l pool * k) * (s * s)) (sym b1) product)))))
+  mint_only : OnlyAt pool l made.ledger
+  mint_only = subst (OnlyAt pool l) (sym made_is)
+      (only_at_then pool l m.mid (with_pair m.mid pool final) (grown_only pool (fee + (n + locked_first s)) l m.mid grown) (with_pair_only m.mid pool final (some_there (pair_of m.mid.pairs pool) m.was still)))
+
+  pub mint_keeps : Keeps l made.ledger
+  mint_keeps = keeps_at pool l made.ledger m.was final mint_only m.found.there m.found.free written
+      (same_lock (is_nobody l.fee_to) m.was m.mid.time (held0 m.mid pool) (held1 m.mid pool) ∙ m.found.free)
+
+  pub mint_same_settings : SameSettings l made.ledger
+  mint_same_settings = only_same_settings pool l made.ledger mint_only
+
+  module _ (sound : IsSound l) where
+    before : IsSoundPair l pool m.was
+    before = sound.pairs pool m.was m.found.there
+
+    covers : IsCovered l pool m.was
+    covers = before.covered m.found.free
+
+    same0 : held0 m.mid pool ≡ held0 l pool
+    same0 = grown.others (asset0 pool) (holders.Pool pool) (share_not_token pool (pool_token0 pool))
+
+    same1 : held1 m.mid pool ≡ held1 l pool
+    same1 = grown.others (asset1 pool) (holders.Pool pool) (share_not_token pool (pool_token1 pool))
+
+    whole : supply m.mid pool ≡ s + (n + locked_first s)
+    whole = omega (arith, grown.whole)
+
+    square : supply m.mid pool * supply m.mid pool ≤ held0 m.mid pool * held1 m.mid pool
+    square =
+        let old = shares_square l pool m.was s covers.first covers.second (fee_due_within l pool m.was before.backed) m.some in
+        subst (λ (k : ℕ). k * k ≤ held0 m.mid pool * held1 m.mid pool) (sym whole)
+        (subst (λ (k : ℕ). (s + (n + locked_first s)) * (s + (n + locked_first s)) ≤ k * held1 m.mid pool) (sym same0)
+        (subst (λ (k : ℕ). (s + (n + locked_first s)) * (s + (n + locked_first s)) ≤ held0 l pool * k) (sym same1) old))
+
+    kept : IsKept m.mid pool
+    kept = elim before.kept [
+      | inl none ↦ inr (subst (λ (k : Ledger). first_locked ≤ balance k (assets.Share pool) holders.Zero) (sym m.mid_is) (shared.first (omega (arith, no_fee_due l pool m.was none))))
+      | inr some ↦ inr (omega (arith, grown.grown (assets.Share pool) holders.Zero))
+    ]
+
+    final_closed : Closed (supply m.mid pool) (held0 m.mid pool) (held1 m.mid pool) final
+    final_closed = closed (is_nobody l.fee_to) m.was m.mid.time (supply m.mid pool) (held0 m.mid pool) (held1 m.mid pool) before.small m.renewed.small0 m.renewed.small1 square
+
+    pub mint_sound : IsSound made.ledger
+    mint_sound = subst IsSound (sym made_is)
+        (settled_sound pool l m.mid m.was final sound m.found.there (grown_only pool (fee + (n + locked_first s)) l m.mid grown) still
+        (omega (arith, square_small (supply m.mid pool) (held0 m.mid pool) (held1 m.mid pool) square m.renewed.small0 m.renewed.small1))
+        final_closed.small final_closed.r0 final_closed.r1 final_closed.backed kept)
+
+    pub mint_per_share : PerShareKept l made.ledger pool made.answer.fee_shares
+    mint_per_share was now at_old at_new pos =
+        let e : m.was ≡ was = one_value (pair_of l.pairs pool) m.was was m.found.there at_old in
+        let f : final ≡ now = one_value (pair_of made.ledger.pairs pool) final now written at_new in
+        let t : supply made.ledger pool ≡ s + (n + locked_first s) = ap (λ (k : Ledger). supply k pool) made_is ∙ whole in
+        let product = shares_product l pool m.was s (subst (λ (k : ℕ). 0 < supply l pool + k) m.fee pos) covers.first covers.second in
+        let b0 : final.r0 ≡ held0 l pool = final_closed.r0 ∙ same0 in
+        let b1 : final.r1 ≡ held1 l pool = final_closed.r1 ∙ same1 in
+        subst (λ (p : PairRecord). (p.r0 * p.r1) * (supply made.ledger pool * supply made.ledger pool) ≤ (now.r0 * now.r1) * ((supply l pool + made.answer.fee_shares) * (supply l pool + made.answer.fee_shares))) e
+        (subst (λ (p : PairRecord). (m.was.r0 * m.was.r1) * (supply made.ledger pool * supply made.ledger pool) ≤ (p.r0 * p.r1) * ((supply l pool + made.answer.fee_shares) * (supply l pool + made.answer.fee_shares))) f
+        (subst (λ (k : ℕ). (m.was.r0 * m.was.r1) * (supply made.ledger pool * supply made.ledger pool) ≤ (final.r0 * final.r1) * ((supply l pool + k) * (supply l pool + k))) (sym m.fee)
+        (subst (λ (k : ℕ). (m.was.r0 * m.was.r1) * (k * k) ≤ (final.r0 * final.r1) * (s * s)) (sym t)
+        (subst (λ (k : ℕ). (m.was.r0 * m.was.r1) * ((s + (n + locked_first s)) * (s + (n + locked_first s))) ≤ (k * final.r1) * (s * s)) (sym b0)
+        (subst (λ (k : ℕ). (m.was.r0 * m.was.r1) * ((s + (n + locked_first s)) * (s + (n + locked_first s))) ≤ (held0 l pool * k) * (s * s)) (sym b1) product)))))
+
+  pub mint_rest : IsAtRest l → IsAtRest made.ledger
+  mint_rest rest = rest_kept l made.ledger rest mint_keeps (mint_sound rest.sound)

@@ -1,6 +1,5 @@
 //! Loans and swaps: a pool lends under its lock, and is paid back.
-ghost use Rattle.std.specs.Prelude.{◌≡◌, ◌≢◌, ◌≤◌, true, Some, IfOk, OnOk, OnErr, IsTrue};
-ghost use Rattle.amm_names.specs.Pools.{is_pool_name};
+ghost use Rattle.std.specs.Prelude.{◌≡◌, ◌≢◌, ◌≤◌, true, Some, IfOk, OnOk, OnErr};
 ghost use Rattle.amm_model.specs.Ledger.{pair_of};
 ghost use Rattle.amm_model.specs.Pools.{held0, held1, reserve_limit};
 ghost use Rattle.amm_model.specs.Operations.{lend, open_loan, give_back, swap, came_in, keeps_product, is_token_of};
@@ -33,8 +32,6 @@ pub fn swap(
     ensures sound { OnOk result (IsSound tx.new.present) }
     ensures product { OnOk result (ProductKept tx.old.present tx.new.present pool.now) }
 {
-    // Its clause says that the two tokens differ.
-    let _ = pool.as_bytes();
     swap_at(alloc, tx, pool, out0, out1, to)
 }
 
@@ -50,7 +47,6 @@ fn swap_at(
 ) -> Result<SwapReceipt, Fault>
     requires clean { tx.old.mark ≡ Mark.Clean }
     requires sound { IsSound tx.old.present }
-    requires named { IsTrue (is_pool_name pool.now) }
     ensures { Meets tx.old tx.new result (swap tx.old.present pool.now out0 out1 to.now) }
 {
     let pair = lend_at(alloc, tx, pool, out0, out1, to)?;
@@ -68,7 +64,6 @@ fn lend_at(
 ) -> Result<PairRecord, Fault>
     requires clean { tx.old.mark ≡ Mark.Clean }
     requires sound { IsSound tx.old.present }
-    requires named { IsTrue (is_pool_name pool.now) }
     ensures meets { Meets tx.old tx.new result (lend tx.old.present pool.now out0 out1 to.now) }
     ensures sound { OnOk result (IsSound tx.new.present) }
     ensures there { IfOk result (λ pair. pair_of tx.new.present.pairs pool.now ≡ Some pair) }
@@ -253,8 +248,6 @@ pub fn open_loan(
     ensures sound { OnOk result (IsSound tx.new.present) }
     ensures open { IfOk result (λ loan. IsOpen tx.new.present loan) }
 {
-    // Its clause says that the two tokens differ.
-    let _ = pool.as_bytes();
     open_at(alloc, tx, pool, out0, out1, to)
 }
 
@@ -269,7 +262,6 @@ fn open_at(
 ) -> Result<Loan, Fault>
     requires clean { tx.old.mark ≡ Mark.Clean }
     requires sound { IsSound tx.old.present }
-    requires named { IsTrue (is_pool_name pool.now) }
     ensures { Meets tx.old tx.new result (open_loan tx.old.present pool.now out0 out1 to.now) }
 {
     let pair = lend_at(alloc, tx, pool, out0, out1, to)?;

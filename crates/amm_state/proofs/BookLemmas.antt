@@ -1,5 +1,5 @@
 -- What the tables of a book give at an asset.
-use Rattle.std.proofs.Common.{◌≡◌, ℕ, ◌+◌, ◌==◌, Bool, true, false, cond, List, [], ◌∷◌, ◌++◌, nat_eq, Option, None, Some, Result, Ok, Err, OnOk, OnErr, is_some, ◌||◌, refl, sym, ap, subst, ◌∙◌, arith}
+use Rattle.std.proofs.Common.{◌≡◌, ℕ, Bool, true, false, cond, List, [], ◌∷◌, ◌++◌, nat_eq, Option, None, Some, Result, Ok, Err, OnOk, OnErr, refl, sym, ap, subst, ◌∙◌}
 use Rattle.std.specs.Option.{unwrap_or, option_map}
 use Rattle.std.specs.Map.{lookup}
 use Rattle.std.specs.Cmp.{eq_by_cmp_equiv}
@@ -15,8 +15,8 @@ use Rattle.amm_model.specs.declared.pair.PairRecord.{PairRecord}
 use Rattle.amm_model.specs.Ledger.{Pairs, pair_of, set_pair, is_listed, Holdings, HoldingsByAsset, holdings_of, set_holdings, amount, set_amount}
 use Rattle.amm_names.proofs.OrderLemmas.{asset_equal, asset_eq, asset_total, asset_antisymmetric}
 use Rattle.amm_model.proofs.LedgerLemmas.{holdings_of-empty, holdings_of-set_holdings, IsTidyByAsset, IsTidyByAsset-empty, IsTidyByAsset-set_holdings, same_holdings, holdings_of-set_here, set_holdings-back}
-use Rattle.amm_state.specs.Rows.{Holders, AssetTable, empty_table, with_row}
-use Rattle.amm_state.specs.Book.{Rows, Tables, holders_at, holdings_in, rows_in, tables_of, table_at, with_table, with_amount, IsUndone}
+use Rattle.amm_state.specs.Rows.{AssetTable, empty_table, with_row}
+use Rattle.amm_state.specs.Book.{holders_at, holdings_in, rows_in, tables_of, table_at, with_table, with_amount, IsUndone}
 
 abbrev pub eq : Asset → Asset → Bool
 eq = (asset_is.ghosts).eq

@@ -1,5 +1,5 @@
 -- A journal after one more change, and after one is undone.
-use Rattle.std.proofs.Common.{◌≡◌, ℕ, ◌+◌, ◌-◌, ◌≤◌, Bool, true, false, cond, Some, IsTrue, List, [], ◌∷◌, ◌++◌, take, length, ◌||◌, refl, sym, ap, subst, ◌∙◌, arith}
+use Rattle.std.proofs.Common.{◌≡◌, ℕ, ◌≤◌, Bool, true, false, cond, Some, List, [], ◌∷◌, ◌||◌, refl, sym, ap, subst, ◌∙◌, arith}
 use Rattle.std.specs.Option.{unwrap_or}
 use Rattle.std.specs.Cmp.{eq_by_cmp_equiv, Equal-is}
 use Rattle.std.specs.FinMap as map
@@ -7,7 +7,7 @@ use Rattle.std.specs.FinSet as set
 use Rattle.amm_names.specs.declared.holder.Holder.{Holder}
 use Rattle.amm_names.specs.declared.holder.Asset.{Asset}
 use Rattle.amm_names.specs.Order.{asset_cmp, same_asset, same_holder}
-use Rattle.amm_model.specs.Ledger.{Ledger, HoldingsByAsset, Pairs, pair_of, set_pair, balance, total, total_limit, set_balance, amount, set_amount, holdings_of}
+use Rattle.amm_model.specs.Ledger.{Ledger, HoldingsByAsset, Pairs, pair_of, set_pair, balance, total, total_limit, set_balance}
 use Rattle.amm_names.proofs.OrderLemmas.{asset_total, asset_antisymmetric, holder_total}
 use Rattle.amm_model.proofs.LedgerLemmas.{total-set_balance, balance_within_total, balance-set_here}
 use Rattle.amm_state.specs.declared.journal.Undo.{Undo}

@@ -1,12 +1,12 @@
 -- What a table's rows give at a holder.
-use Rattle.std.proofs.Common.{◌≡◌, ℕ, ◌+◌, ◌-◌, ◌≤◌, ◌==◌, Bool, true, false, cond, List, [], ◌∷◌, Option, None, Some, is_some, ◌||◌, refl, sym, ap, ◌∙◌, arith}
+use Rattle.std.proofs.Common.{◌≡◌, ℕ, ◌+◌, ◌-◌, ◌≤◌, Bool, true, false, cond, List, [], ◌∷◌, Option, Some, is_some, ◌||◌, refl, sym, ap, ◌∙◌, arith}
 use Rattle.std.specs.Option.{unwrap_or}
 use Rattle.std.specs.Map.{lookup}
 use Rattle.std.specs.Cmp.{eq_by_cmp_equiv}
 use Rattle.amm_names.specs.declared.holder.Holder.{Holder}
 use Rattle.amm_names.specs.contracts.holder.HolderPartialEq.TheImpl as holder_is
 use Rattle.amm_names.specs.Order.{same_holder}
-use Rattle.amm_model.specs.Ledger.{Holdings, amount, set_amount, sum_held}
+use Rattle.amm_model.specs.Ledger.{amount, set_amount, sum_held}
 use Rattle.amm_names.proofs.OrderLemmas.{holder_eq, holder_total}
 use Rattle.amm_model.proofs.LedgerLemmas.{amount-set_amount, amount-empty, IsTidy, IsTidy-empty, IsTidy-set_amount, same_held, amount_within_sum, sum_held-set_amount}
 use Rattle.std.specs.FinSet as set

@@ -9,7 +9,7 @@ use Rattle.amm_names.specs.declared.holder.Asset.{Asset}
 use Rattle.amm_names.specs.contracts.holder.Asset as asset
 use Rattle.amm_names.specs.Order.{asset_cmp}
 use Rattle.amm_model.specs.Ledger.{HoldingsByAsset, Pairs, Ledger, holdings_of, set_holdings, set_balance, amount, set_amount}
-use Rattle.amm_model.specs.Codes.{holdings_by_asset_code, ledger_code}
+use Rattle.amm_model.specs.Codes.{ledger_code}
 use Rattle.amm_state.specs.Rows.{Holders, holders_code, AssetTable, with_row}
 
 -- the holders that have a row, for each asset

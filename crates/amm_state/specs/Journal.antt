@@ -1,5 +1,5 @@
 -- What a journal says of the ledger that it leads back to.
-use Rattle.std.specs.Prelude.{ℕ, ◌+◌, ◌-◌, ◌≤◌, List, [], ◌∷◌, take, length, IsTrue}
+use Rattle.std.specs.Prelude.{◌+◌, ◌-◌, ◌≤◌, List, [], ◌∷◌, take, length, IsTrue}
 use Rattle.amm_model.specs.Ledger.{Ledger, balance, total, total_limit, set_balance, set_pair, with_fee_to, with_setter}
 use Rattle.amm_state.specs.declared.journal.Undo.{Undo}
 use Rattle.amm_state.specs.declared.journal.Undo.TheVariants.{Balance, Token, NewPair, Pair, FeeTo, Setter, Time}

@@ -38,24 +38,33 @@ impl Model for Book {
     ghost view = { λ book. record { ledger = record { holdings = holdings_in book.assets.entries; tokens = book.tokens.keys; pairs = book.pairs.entries; fee_to = book.fee_to; setter = book.setter; time = book.time; quotes = []; observations = [] }; rows = rows_in book.assets.entries } };
 }
 
-// Gives the holder this amount of the asset.
+/// The total of an asset, and what one holder has of it.
+#[derive(Clone, Copy, Drop)]
+pub(crate) struct Account {
+    pub total: u64,
+    pub amount: u64,
+}
+
+// Gives the holder n units of the asset in place of those that it has.
 fn put_amount(
     assets: &mut IndexMap<Asset, AssetRows>,
     alloc: Global,
     asset: &Asset,
     holder: &Holder,
+    before: u64,
     n: u64,
 ) -> Result<(), Memory>
-    requires { sum_held (holdings_of (holdings_in assets.old.entries) asset.now) - amount (holdings_of (holdings_in assets.old.entries) asset.now) holder.now + n ≤ total_limit }
+    requires before { before ≡ amount (holdings_of (holdings_in assets.old.entries) asset.now) holder.now }
+    requires limit { sum_held (holdings_of (holdings_in assets.old.entries) asset.now) - before + n ≤ total_limit }
     ensures ok { OnOk result (tables_of assets.new.entries ≡ with_amount (tables_of assets.old.entries) asset.now holder.now n) }
     ensures undone { OnOk result (IsUndone (holdings_in assets.old.entries) asset.now holder.now n) }
     ensures err { OnErr result (tables_of assets.new.entries ≡ tables_of assets.old.entries) }
 {
     if let Some(rows) = assets.get_mut(asset) {
-        return rows.set(holder, n);
+        return rows.set(holder, before, n);
     }
     let mut rows = AssetRows::new(alloc);
-    rows.set(holder, n)?;
+    rows.set(holder, before, n)?;
     match assets.insert(*asset, rows) {
         Ok(_) => Ok(()),
         Err(_) => Err(Memory),
@@ -97,8 +106,23 @@ impl Book {
         }
     }
 
-    pub(crate) fn allocator(&self) -> Global {
-        *self.assets.allocator()
+    /// The total of the asset and what the holder has of it, by one look-up each.
+    pub(crate) fn account(&self, asset: &Asset, holder: &Holder) -> Account
+        ensures total { result.total ≡ total self.now.ledger asset.now }
+        ensures amount { result.amount ≡ balance self.now.ledger asset.now holder.now }
+        ensures limit { result.total ≤ total_limit }
+        ensures within { result.amount ≤ result.total }
+    {
+        match self.assets.get(asset) {
+            Some(rows) => Account {
+                total: rows.total(),
+                amount: rows.amount(holder),
+            },
+            None => Account {
+                total: 0,
+                amount: 0,
+            },
+        }
     }
 
     /// What the holder has of the asset.
@@ -186,20 +210,22 @@ impl Book {
         self.time
     }
 
-    /// Gives the holder this amount of the asset.
+    /// Gives the holder n units of the asset in place of those that it has.
     pub(crate) fn set_balance(
         &mut self,
         alloc: Global,
         asset: &Asset,
         holder: &Holder,
+        before: u64,
         n: u64,
     ) -> Result<(), Memory>
-        requires { total self.old.ledger asset.now - balance self.old.ledger asset.now holder.now + n ≤ total_limit }
+        requires before { before ≡ balance self.old.ledger asset.now holder.now }
+        requires limit { total self.old.ledger asset.now - before + n ≤ total_limit }
         ensures ok { OnOk result (self.new ≡ with_balance self.old asset.now holder.now n) }
         ensures undone { OnOk result (IsUndone self.old.ledger.holdings asset.now holder.now n) }
         ensures err { OnErr result (self.new ≡ self.old) }
     {
-        put_amount(&mut self.assets, alloc, asset, holder, n)
+        put_amount(&mut self.assets, alloc, asset, holder, before, n)
     }
 
     /// Gives a holder that has a row this amount of the asset.

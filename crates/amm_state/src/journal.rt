@@ -70,10 +70,18 @@ impl Journal {
     pub fn pop(&mut self) -> Option<Undo>
         ensures some { IfSome result (λ undo. self.old ≡ undo ∷ self.new) }
         ensures none { IfNone result (self.old ≡ []) }
+        ensures left { IfNone result (self.new ≡ []) }
     {
         match self.entries.pop() {
             Some(entry) => Some(entry.undo),
             None => None,
         }
+    }
+
+    /// Forgets all changes, and keeps the room for the next ones.
+    pub fn clear(&mut self)
+        ensures { self.new ≡ [] }
+    {
+        self.entries.clear();
     }
 }

@@ -50,9 +50,6 @@ fn put_row(rows: &mut IndexMap<Holder, u64>, holder: &Holder, n: u64) -> Result<
     ensures ok { OnOk result (table_of rows.new.entries ≡ with_row (table_of rows.old.entries) holder.now n) }
     ensures err { OnErr result (rows.new.entries ≡ rows.old.entries) }
 {
-    if write_row(rows, holder, n) {
-        return Ok(());
-    }
     match rows.insert(*holder, n) {
         Ok(_) => Ok(()),
         Err(_) => Err(Memory),
@@ -85,14 +82,15 @@ impl AssetRows {
         self.total
     }
 
-    /// Gives the holder this amount. An amount that was there takes no memory.
-    pub fn set(&mut self, holder: &Holder, n: u64) -> Result<(), Memory>
-        requires { sum_held self.old.held - amount self.old.held holder.now + n ≤ total_limit }
+    /// Gives the holder n units in place of those that it has. A row that is there takes no memory.
+    pub fn set(&mut self, holder: &Holder, before: u64, n: u64) -> Result<(), Memory>
+        requires before { before ≡ amount self.old.held holder.now }
+        requires limit { sum_held self.old.held - before + n ≤ total_limit }
         ensures ok { OnOk result (self.new ≡ with_row self.old holder.now n) }
         ensures undone { set_amount (set_amount self.old.held holder.now n) holder.now (amount self.old.held holder.now) ≡ self.old.held }
         ensures err { OnErr result (self.new ≡ self.old) }
     {
-        let total = self.total - self.amount(holder) + n;
+        let total = self.total - before + n;
         put_row(&mut self.rows, holder, n)?;
         self.total = total;
         Ok(())

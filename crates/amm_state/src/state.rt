@@ -4,6 +4,7 @@ ghost use Rattle.amm_model.specs.Ledger.{opening_ledger};
 ghost use Rattle.amm_model.specs.Sound.{IsAtRest};
 
 use crate::Book;
+use crate::journal::Journal;
 use amm_names::{Memory, UserName};
 use std::alloc::Global;
 use std::marker::Model;
@@ -12,9 +13,12 @@ use std::marker::Model;
 #[derive(Drop)]
 pub struct State {
     pub(crate) book: Book,
+    // Empty, with the room that earlier transactions needed.
+    pub(crate) journal: Journal,
 }
 
 impl Model for State {
+    ghost use Rattle.std.specs.Prelude.{◌≡◌, []};
     ghost use Rattle.amm_model.specs.Ledger.{Ledger};
     ghost use Rattle.amm_model.specs.Codes.{ledger_code};
     ghost use Rattle.amm_model.specs.Sound.{IsAtRest};
@@ -25,7 +29,7 @@ impl Model for State {
 
     ghost view = { λ state. state.book.ledger };
 
-    ghost invariant = { λ state. IsAtRest state.book.ledger };
+    ghost invariant = { λ state. IsAtRest state.book.ledger × (state.journal ≡ []) };
 }
 
 impl State {
@@ -36,6 +40,7 @@ impl State {
         let setter = UserName::read(alloc, b"admin".as_slice())?.unwrap();
         Ok(State {
             book: Book::new(alloc, setter),
+            journal: Journal::new(alloc),
         })
     }
 

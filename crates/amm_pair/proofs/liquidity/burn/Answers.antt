@@ -9,9 +9,9 @@ use Rattle.amm_pair.proofs.liquidity.burn.Goals as goal
 
 pub returns-clause-sound : goal.returns-clause-sound
 returns-clause-sound c =
-    on_ok IsSound _ _ _ _ c.burn_at.ensures (λ made is. burn_sound c.args.tx.now.present c.args.pool.now c.args.to.now made (tokens_differ c.args.pool.now c.as_bytes.ensures.pool) c.requires.sound is)
+    on_ok IsSound _ _ _ _ c.burn_at.ensures (λ made is. burn_sound c.args.tx.now.present c.args.pool.now c.args.to.now made is (tokens_differ c.args.pool.now c.as_bytes.ensures.pool) c.requires.sound)
 
 pub returns-clause-per_share : goal.returns-clause-per_share
 returns-clause-per_share c =
     if_ok (λ (l : Ledger) (receipt : BurnReceipt). PerShareKept c.args.tx.now.present l c.args.pool.now receipt.fee_shares) _ _ _ _ c.burn_at.ensures
-    (λ made is. burn_per_share c.args.tx.now.present c.args.pool.now c.args.to.now made (tokens_differ c.args.pool.now c.as_bytes.ensures.pool) c.requires.sound is)
+    (λ made is. burn_per_share c.args.tx.now.present c.args.pool.now c.args.to.now made is (tokens_differ c.args.pool.now c.as_bytes.ensures.pool) c.requires.sound)

@@ -7,9 +7,9 @@ use Rattle.amm_pair.proofs.Shares.{mint_sound, mint_per_share}
 use Rattle.amm_pair.proofs.liquidity.mint.Goals as goal
 
 pub returns-clause-sound : goal.returns-clause-sound
-returns-clause-sound c = on_ok IsSound _ _ _ _ c.mint_at.ensures (λ made is. mint_sound c.args.tx.now.present c.args.pool.now c.args.to.now made c.requires.sound is)
+returns-clause-sound c = on_ok IsSound _ _ _ _ c.mint_at.ensures (λ made is. mint_sound c.args.tx.now.present c.args.pool.now c.args.to.now made is c.requires.sound)
 
 pub returns-clause-per_share : goal.returns-clause-per_share
 returns-clause-per_share c =
     if_ok (λ (l : Ledger) (receipt : MintReceipt). PerShareKept c.args.tx.now.present l c.args.pool.now receipt.fee_shares) _ _ _ _ c.mint_at.ensures
-    (λ made is. mint_per_share c.args.tx.now.present c.args.pool.now c.args.to.now made c.requires.sound is)
+    (λ made is. mint_per_share c.args.tx.now.present c.args.pool.now c.args.to.now made is c.requires.sound)

@@ -3,14 +3,13 @@ use Rattle.amm_model.specs.declared.pair.PairRecord.{PairRecord}
 use Rattle.amm_model.specs.Ledger.{Ledger, pair_of}
 use Rattle.amm_model.specs.Sound.{IsSound}
 use Rattle.amm_state.proofs.Meets.{on_ok, if_ok}
-use Rattle.amm_pair.proofs.Tokens.{tokens_differ}
 use Rattle.amm_pair.proofs.Lending.{lend_sound, lend_open}
 use Rattle.amm_pair.proofs.loans.lend_at.Goals as goal
 
 pub returns-clause-sound : goal.returns-clause-sound
-returns-clause-sound c = on_ok IsSound _ _ _ _ c.lend_free.ensures (λ made is. lend_sound _ _ _ _ _ made (tokens_differ c.args.pool.now c.requires.named) c.requires.sound is)
+returns-clause-sound c = on_ok IsSound _ _ _ _ c.lend_free.ensures (λ made is. lend_sound _ _ _ _ _ made c.requires.sound is)
 
 pub returns-clause-there : goal.returns-clause-there
 returns-clause-there c =
     if_ok (λ (l : Ledger) (p : PairRecord). pair_of l.pairs c.args.pool.now ≡ Some p) _ _ _ _ c.lend_free.ensures
-    (λ made is. (lend_open _ _ _ _ _ made (tokens_differ c.args.pool.now c.requires.named) is).there)
+    (λ made is. (lend_open _ _ _ _ _ made is).there)

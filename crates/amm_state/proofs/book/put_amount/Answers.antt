@@ -1,18 +1,23 @@
-use Rattle.std.proofs.Common.{◌≡◌, List, Some, None, is_some, ap, sym, ◌∙◌, arith}
+use Rattle.std.proofs.Common.{◌≡◌, List, Some, None, is_some, ap, sym, ◌∙◌}
 use Rattle.std.specs.Map.{lookup}
 use Rattle.amm_names.specs.declared.holder.Asset.{Asset}
 use Rattle.amm_model.specs.Ledger.{holdings_of}
-use Rattle.amm_model.proofs.LedgerLemmas.{sum_held-empty}
 use Rattle.amm_state.specs.Rows.{AssetTable, with_row, empty_table}
 use Rattle.amm_state.specs.Book.{holdings_in, tables_of, with_amount}
 use Rattle.amm_state.proofs.BookLemmas.{eq, found_table, put_in_place, put_new, tables_of-rewritten, map_OnOk, map_OnErr, undone_here, OnOk-always}
 use Rattle.amm_state.proofs.book.put_amount.Goals as goal
 
-pub set-requires : goal.set-requires
-set-requires c =
+pub set-requires-clause-before : goal.set-requires-clause-before
+set-requires-clause-before c =
     let e : c.in-Some.rows.now.held ≡ holdings_of (holdings_in c.args.assets.now.entries) c.args.asset.now =
     ap (λ (t : AssetTable). t.held) (found_table c.args.assets.now.entries c.args.asset.now (Some c.in-Some.rows.now) c.in-Some.ensures.value) in
-    rw e c.requires
+    rw e c.requires.before
+
+pub set-requires-clause-limit : goal.set-requires-clause-limit
+set-requires-clause-limit c =
+    let e : c.in-Some.rows.now.held ≡ holdings_of (holdings_in c.args.assets.now.entries) c.args.asset.now =
+    ap (λ (t : AssetTable). t.held) (found_table c.args.assets.now.entries c.args.asset.now (Some c.in-Some.rows.now) c.in-Some.ensures.value) in
+    rw e c.requires.limit
 
 pub returns-in-Some-clause-ok : goal.returns-in-Some-clause-ok
 returns-in-Some-clause-ok c =
@@ -26,8 +31,17 @@ returns-in-Some-clause-err c =
     let updates = (written.3 (ap is_some (sym c.in-Some.ensures.value))).0 in
     map_OnErr c.set.result (λ e. tables_of-rewritten c.args.assets.now.entries _ c.args.asset.now c.set.new.self updates (ap Some e ∙ c.in-Some.ensures.value)) c.set.ensures.err
 
-pub set-requires-2 : goal.set-requires-2
-set-requires-2 c = rw (c.new-rows.ensures, sum_held-empty) (omega arith)
+pub set-requires-2-clause-before : goal.set-requires-2-clause-before
+set-requires-2-clause-before c =
+    let e : c.new-rows.result.held ≡ holdings_of (holdings_in c.args.assets.now.entries) c.args.asset.now =
+    ap (λ (t : AssetTable). t.held) (c.new-rows.ensures ∙ found_table c.args.assets.now.entries c.args.asset.now None c.in_default.ensures.value) in
+    rw e c.requires.before
+
+pub set-requires-2-clause-limit : goal.set-requires-2-clause-limit
+set-requires-2-clause-limit c =
+    let e : c.new-rows.result.held ≡ holdings_of (holdings_in c.args.assets.now.entries) c.args.asset.now =
+    ap (λ (t : AssetTable). t.held) (c.new-rows.ensures ∙ found_table c.args.assets.now.entries c.args.asset.now None c.in_default.ensures.value) in
+    rw e c.requires.limit
 
 pub returns-in-Ok-clause-ok : goal.returns-in-Ok-clause-ok
 returns-in-Ok-clause-ok c =

@@ -22,4 +22,4 @@ opening_rest : (setter : List ℕ) → IsAtRest (with_setter opening_ledger sett
 opening_rest setter = record { sound = opening_sound setter; unlocked = λ pool pair is. cc }
 
 pub invariant_of-result : goal.invariant_of-result
-invariant_of-result c = rw c.new.ensures (opening_rest c.unwrap-setter.result)
+invariant_of-result c = (rw c.new.ensures (opening_rest c.unwrap-setter.result), c.new-2.ensures)

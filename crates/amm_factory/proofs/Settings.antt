@@ -1,0 +1,43 @@
+-- What an accepted change of the settings leaves.
+use Rattle.std.proofs.Common.{◌≡◌, ℕ, not, List, Ok, sym, ap, subst}
+use Rattle.amm_names.specs.declared.holder.Holder.{Holder}
+use Rattle.amm_model.specs.declared.fault.Refusal.TheVariants as code
+use Rattle.amm_model.specs.Ledger.{Ledger, Made, with_fee_to, with_setter}
+use Rattle.amm_model.specs.Pools.{same_name}
+use Rattle.amm_model.specs.Factory.{set_fee_to, set_setter}
+use Rattle.amm_model.specs.Sound.{IsSound, IsAtRest}
+use Rattle.amm_model.proofs.Guards.{not_refused, same_answer}
+use Rattle.amm_model.proofs.PlainSound.{fee_to_plain, fee_to_sound, fee_to_rest, fee_to_totals, setter_plain, setter_sound, setter_rest, setter_totals}
+use Rattle.amm_model.proofs.Keeping.{Keeps, plain_keeps}
+
+module _ (ledger : Ledger) (actor : List ℕ) (to : Holder) (made : Made (Unit {0})) (is : set_fee_to ledger actor to ≡ Ok made) where
+  pub set_fee_to_made : made.ledger ≡ with_fee_to ledger to
+  unfolding set_fee_to
+  set_fee_to_made =
+      let past = not_refused (not (same_name actor ledger.setter)) code.Forbidden _ made is in
+      ap (λ (m : Made (Unit {0})). m.ledger) (sym (same_answer (record { ledger = with_fee_to ledger to; answer = tt }) made past.1))
+
+  pub set_fee_to_keeps : Keeps ledger made.ledger
+  set_fee_to_keeps = subst (Keeps ledger) (sym set_fee_to_made) (plain_keeps ledger (with_fee_to ledger to) (fee_to_plain ledger to) (fee_to_totals ledger to))
+
+  pub set_fee_to_sound : IsSound ledger → IsSound made.ledger
+  set_fee_to_sound sound = subst IsSound (sym set_fee_to_made) (fee_to_sound ledger to sound)
+
+  pub set_fee_to_rest : IsAtRest ledger → IsAtRest made.ledger
+  set_fee_to_rest rest = subst IsAtRest (sym set_fee_to_made) (fee_to_rest ledger to rest)
+
+module _ (ledger : Ledger) (actor to : List ℕ) (made : Made (Unit {0})) (is : set_setter ledger actor to ≡ Ok made) where
+  pub set_setter_made : made.ledger ≡ with_setter ledger to
+  unfolding set_setter
+  set_setter_made =
+      let past = not_refused (not (same_name actor ledger.setter)) code.Forbidden _ made is in
+      ap (λ (m : Made (Unit {0})). m.ledger) (sym (same_answer (record { ledger = with_setter ledger to; answer = tt }) made past.1))
+
+  pub set_setter_keeps : Keeps ledger made.ledger
+  set_setter_keeps = subst (Keeps ledger) (sym set_setter_made) (plain_keeps ledger (with_setter ledger to) (setter_plain ledger to) (setter_totals ledger to))
+
+  pub set_setter_sound : IsSound ledger → IsSound made.ledger
+  set_setter_sound sound = subst IsSound (sym set_setter_made) (setter_sound ledger to sound)
+
+  pub set_setter_rest : IsAtRest ledger → IsAtRest made.ledger
+  set_setter_rest rest = subst IsAtRest (sym set_setter_made) (setter_rest ledger to rest)
