@@ -87,7 +87,13 @@ impl Borrower for Hostile {
             }
             Hostile::Overdraws(user) => {
                 let asset = Asset::Token(*loan.pool().token1());
-                let _ = tx.move_units(alloc, &asset, &Holder::User(*user), &Holder::Zero, 4_000_001);
+                let _ = tx.move_units(
+                    alloc,
+                    &asset,
+                    &Holder::User(*user),
+                    &Holder::Zero,
+                    4_000_001,
+                );
                 Ok(())
             }
             Hostile::Refuses => {

@@ -54,12 +54,7 @@ fn give(alloc: Global, tx: &mut Tx, token: &TokenName, to: &UserName, n: u64) ->
     tx.issue(alloc, &Asset::Token(*token), &Holder::User(*to), n)
 }
 
-fn create_pool(
-    alloc: Global,
-    tx: &mut Tx,
-    a: &TokenName,
-    b: &TokenName,
-) -> Result<PoolName, Fault>
+fn create_pool(alloc: Global, tx: &mut Tx, a: &TokenName, b: &TokenName) -> Result<PoolName, Fault>
     requires clean { tx.old.mark ≡ Mark.Clean }
     requires rest { IsAtRest tx.old.present }
     ensures clean { OnOk result (tx.new.mark ≡ Mark.Clean) }
