@@ -1,5 +1,5 @@
 -- Names in order, and what follows for the tokens of a problem.
-use Rattle.std.proofs.Common.{◌≡◌, ◌≢◌, ◌⊎◌, ℕ, ◌+◌, ◌-◌, ◌<◌, ◌≤◌, inl, inr, zero, suc, Bool, true, false, cond, ◌&&◌, List, [], ◌∷◌, ◌++◌, length, take, get_or, map, arith, refl, sym, ap, subst, ◌∙◌}
+use Rattle.std.proofs.Common.{◌≡◌, ◌≢◌, ◌⊎◌, ℕ, ◌+◌, ◌-◌, ◌*◌, ◌<◌, ◌≤◌, inl, inr, zero, suc, Bool, true, false, cond, ◌&&◌, List, [], ◌∷◌, ◌++◌, length, take, get_or, map, arith, refl, sym, ap, subst, ◌∙◌}
 use Rattle.std.specs.Prelude.{◌↔◌, ◌==◌, codes, AllPairs, All, Contains, IsTrue}
 use Rattle.std.specs.declared.cmp.Ordering.{Ordering}
 use Rattle.std.specs.declared.cmp.Ordering.TheVariants.{Less, Equal, Greater}
@@ -13,6 +13,8 @@ use Rattle.std.proofs.lemmas.List.Kept.{AllPairs-cons, Contains-dedup, Contains-
 use Rattle.std.proofs.lemmas.List.Sorted.{Contains-permutation, IsPermutation-sym}
 use Rattle.std.proofs.lemmas.List.Sums.{fails_before_first}
 use Rattle.std.proofs.lemmas.Bool.{cases_lt}
+use Rattle.std.proofs.lemmas.Map.Keys.{IsDistinct-from_apart}
+use Rattle.std.proofs.lemmas.Map.Made.{is_member-Decides, length-le_from_is_member}
 use Rattle.std.proofs.lemmas.List.{get_or-map}
 use Rattle.std.proofs.Math.ListN.{length-map}
 use Rattle.std.proofs.lemmas.Slice.Eq.{bytes_eq-Decides}
@@ -147,6 +149,26 @@ places_there problem sound k d below =
     let inside : k < length problem.pools = rw length-map at below in
     let is = get_or-map (places_of problem.tokens) problem.pools k no_pool d inside in
     rw is (tokens_there problem sound k no_pool inside)
+
+-- two tokens, and at most two for each of at most 256 pools
+pub tokens_few : (problem : ProblemView) → IsProblem problem → length problem.tokens ≤ 514
+tokens_few problem sound = omega (arith, within, named problem.pools, sound.parts.few)
+  where
+    named : (pools : List ProblemPool) → length (tokens_of_pools pools) ≡ 2 * length pools
+    named [] = refl
+    named (pool ∷ pools) = omega (arith, named pools)
+
+    differ : (a b : Name) → a ≢ b → bytes_eq a b ≡ false
+    differ a b apart = pick (bytes_eq a b) (bytes_eq-Decides a b).0
+      where
+        pick : (c : Bool) → (c ≡ true → a ≡ b) → c ≡ false
+        pick true says = absurd (apart (says refl))
+        pick false says = refl
+
+    within : length problem.tokens ≤ length (tokens_named problem)
+    within = length-le_from_is_member nat_list_eq_equiv problem.tokens (tokens_named problem)
+        (IsDistinct-from_apart bytes_eq problem.tokens (λ i j d ij below. differ _ _ (once_tokens problem sound i j d ij below)))
+        (λ q has. (is_member-Decides bytes_eq-Decides (tokens_named problem) q).1 ((sound.tokens q).0 ((is_member-Decides bytes_eq-Decides problem.tokens q).0 has)))
 
 -- every fee that a name spells is one of the three
 digits_fee : (digits : List ℕ) → IsFee (fee_of_digits digits)

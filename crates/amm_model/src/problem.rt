@@ -1,5 +1,5 @@
 //! The routing problem: how much of one token to bring to another, and over which pools.
-ghost use Rattle.std.specs.Prelude.{◌≡◌, ◌<◌, All, IfOk, MatchOption, length, map};
+ghost use Rattle.std.specs.Prelude.{◌≡◌, ◌<◌, ◌≤◌, All, IfOk, MatchOption, length, map};
 ghost use Rattle.amm_model.specs.declared.problem.TokenPlaces as places_view;
 ghost use Rattle.amm_model.specs.Routing.{AreParts, IsProblem, IsProblemOf, places_of, token_place};
 
@@ -135,6 +135,7 @@ impl Problem {
         ensures source { result.0 ≡ token_place self.now.tokens self.now.s }
         ensures target { result.1 ≡ token_place self.now.tokens self.now.t }
         ensures there { (result.0 < length self.now.tokens) × (result.1 < length self.now.tokens) }
+        ensures few { length self.now.tokens ≤ 514 }
     {
         (self.s_place, self.t_place)
     }
@@ -143,6 +144,7 @@ impl Problem {
     pub fn places(&self) -> &[TokenPlaces]
         ensures list { result.now ≡ map (places_of self.now.tokens) self.now.pools }
         ensures there { All (λ (at : places_view.TokenPlaces). (at.zero < length self.now.tokens) × (at.one < length self.now.tokens)) result.now }
+        ensures few { length self.now.tokens ≤ 514 }
     {
         &self.places
     }

@@ -4,3 +4,4 @@ pub mod Lending
 pub mod Minting
 pub mod Shares
 pub mod Burning
+pub mod Laters

@@ -5,6 +5,8 @@
 //! reserves below 2^48, balances and amounts below 2^52. None takes memory and none refuses.
 #![tactic(auto)]
 
+mod laws;
+
 ghost use Rattle.std.specs.Prelude.{◌≡◌, ◌+◌, ◌-◌, ◌*◌, ◌/◌, ◌^◌, ◌<◌, ◌≤◌, ◌↔◌, IsTrue};
 ghost use Rattle.amm_model.specs.Root.{IsRoot, root_of};
 ghost use Rattle.amm_model.specs.Swap.{Admits, IsFee, IsGreatestOutput, IsLeastInputOrOneMore, admits as admits_of, amount_in_of, amount_out_of, input_weight, quote_of};
@@ -12,6 +14,7 @@ ghost use Rattle.amm_model.specs.Formulas.{elapsed as elapsed_of, grown as grown
 
 use amm_model::PairRecord;
 use amm_num::{mul_div, root};
+pub use laws::{fee_keeps_backing, shares_keep_product, swap_keeps_product};
 
 // Times are kept modulo 2^32.
 const SECONDS: u64 = 0x1_0000_0000;

@@ -1,8 +1,9 @@
-ghost use Rattle.std.specs.Prelude.{◌≡◌};
+ghost use Rattle.std.specs.Prelude.{◌≡◌, OnOk};
 ghost use Rattle.amm_state.specs.declared.mark.Mark.{Mark};
 
-use crate::{State, Tx};
-use amm_names::{Asset, Holder, TokenName, UserName};
+use crate::{Book, Mark, State, Tx};
+use amm_model::{Fault, Refusal};
+use amm_names::{Asset, Holder, PoolName, TokenName, UserName};
 use std::alloc::Global;
 use std::test::Fail;
 
@@ -14,10 +15,17 @@ fn user(alloc: Global, i: u32) -> Result<Holder, Fail> {
     }
 }
 
-fn token(alloc: Global) -> Result<Asset, Fail> {
+fn token(alloc: Global) -> Result<TokenName, Fail> {
     match TokenName::read(alloc, b"T".as_slice()) {
-        Ok(Some(name)) => Ok(Asset::Token(name)),
+        Ok(Some(name)) => Ok(name),
         _ => Err("no token")?,
+    }
+}
+
+fn new_state(alloc: Global) -> Result<State, Fail> {
+    match State::new(alloc) {
+        Ok(state) => Ok(state),
+        Err(_) => Err("no memory")?,
     }
 }
 
@@ -46,16 +54,144 @@ fn fill(alloc: Global, tx: &mut Tx, asset: &Asset) -> Result<(), Fail>
 #[test]
 fn rolls_back_many_moves(rt: HostRuntime) -> Result<(), Fail> {
     let alloc = rt.alloc();
-    let asset = token(alloc)?;
-    let state = match State::new(alloc) {
-        Ok(state) => state,
-        Err(_) => return Err("no memory")?,
-    };
-    let mut tx = Tx::begin(state);
+    let asset = Asset::Token(token(alloc)?);
+    let mut tx = Tx::begin(new_state(alloc)?);
     let filled = fill(alloc, &mut tx, &asset);
     let total = tx.book().total(&asset);
     let state = tx.rollback();
-    assert_eq!(&rt; total, 40000);
-    assert_eq!(&rt; state.book().total(&asset), 0);
+    assert!(&rt; total == 40000 && state.book().total(&asset) == 0);
     filled
+}
+
+// Whether a book is as `State::new` makes it.
+fn is_opening(book: &Book, asset: &Asset) -> bool {
+    book.total(asset) == 0
+        && book.token_count() == 0
+        && book.pair_count() == 0
+        && *book.fee_to() == Holder::Zero
+        && book.setter().as_bytes() == b"admin".as_slice()
+        && book.time() == 0
+}
+
+fn moves(alloc: Global, tx: &mut Tx, token: &TokenName, from: &Holder) -> Result<(), Fault>
+    requires { tx.old.mark ≡ Mark.Clean }
+{
+    let asset = Asset::Token(*token);
+    tx.list_token(alloc, token)?;
+    tx.issue(alloc, &asset, from, 10)?;
+    tx.move_units(alloc, &asset, from, &Holder::Zero, 4)?;
+    tx.retire(alloc, &asset, from, 1)
+}
+
+fn shows_moves(book: &Book, token: &TokenName, from: &Holder) -> bool {
+    let asset = Asset::Token(*token);
+    book.has_token(token)
+        && book.token_count() == 1
+        && book.total(&asset) == 9
+        && book.balance(&asset, from) == 5
+}
+
+#[test]
+fn takes_moves_back(rt: HostRuntime) -> Result<(), Fail> {
+    let alloc = rt.alloc();
+    let token = token(alloc)?;
+    let from = user(alloc, 1)?;
+    let mut tx = Tx::begin(new_state(alloc)?);
+    let done = moves(alloc, &mut tx, &token, &from).is_ok();
+    let shown = shows_moves(tx.book(), &token, &from);
+    let state = tx.rollback();
+    assert!(&rt; done && shown && is_opening(state.book(), &Asset::Token(token)));
+    Ok(())
+}
+
+fn sets(alloc: Global, tx: &mut Tx, to: &UserName) -> Result<(), Fault>
+    requires { tx.old.mark ≡ Mark.Clean }
+{
+    tx.set_fee_to(alloc, &Holder::User(*to))?;
+    tx.set_setter(alloc, to)?;
+    tx.set_time(alloc, 7)
+}
+
+fn shows_settings(book: &Book, to: &UserName) -> bool {
+    *book.fee_to() == Holder::User(*to) && book.setter() == to && book.time() == 7
+}
+
+#[test]
+fn takes_settings_back(rt: HostRuntime) -> Result<(), Fail> {
+    let alloc = rt.alloc();
+    let asset = Asset::Token(token(alloc)?);
+    let bob = match UserName::read(alloc, b"bob".as_slice()) {
+        Ok(Some(name)) => name,
+        _ => return Err("no user")?,
+    };
+    let mut tx = Tx::begin(new_state(alloc)?);
+    let done = sets(alloc, &mut tx, &bob).is_ok();
+    let shown = shows_settings(tx.book(), &bob);
+    let state = tx.rollback();
+    assert!(&rt; done && shown && is_opening(state.book(), &asset));
+    Ok(())
+}
+
+fn adds_pair(alloc: Global, tx: &mut Tx, pool: &PoolName) -> Result<(), Fault>
+    requires { tx.old.mark ≡ Mark.Clean }
+    ensures { OnOk result (tx.new.mark ≡ Mark.Clean) }
+{
+    match tx.book().pair(pool) {
+        Some(_) => Ok(()),
+        None => tx.add_pair(alloc, pool),
+    }
+}
+
+fn locks_pair(alloc: Global, tx: &mut Tx, pool: &PoolName) -> Result<(), Fault>
+    requires { tx.old.mark ≡ Mark.Clean }
+{
+    match tx.book().pair(pool) {
+        Some(pair) => {
+            let mut locked = *pair;
+            locked.locked = true;
+            tx.set_pair(alloc, pool, locked)
+        }
+        None => Ok(()),
+    }
+}
+
+fn writes_pair(alloc: Global, tx: &mut Tx, pool: &PoolName) -> Result<(), Fault>
+    requires { tx.old.mark ≡ Mark.Clean }
+{
+    adds_pair(alloc, tx, pool)?;
+    locks_pair(alloc, tx, pool)
+}
+
+fn shows_pair(book: &Book) -> bool {
+    book.pair_count() == 1 && book.pair_at(0).is_some() && book.any_locked()
+}
+
+#[test]
+fn takes_pairs_back(rt: HostRuntime) -> Result<(), Fail> {
+    let alloc = rt.alloc();
+    let asset = Asset::Token(token(alloc)?);
+    let pool = match PoolName::read(alloc, b"A/B".as_slice()) {
+        Ok(Some(name)) => name,
+        _ => return Err("no pool")?,
+    };
+    let mut tx = Tx::begin(new_state(alloc)?);
+    let done = writes_pair(alloc, &mut tx, &pool).is_ok();
+    let shown = shows_pair(tx.book());
+    let state = tx.rollback();
+    assert!(&rt; done && shown && is_opening(state.book(), &asset));
+    Ok(())
+}
+
+#[test]
+fn marks_a_fault(rt: HostRuntime) -> Result<(), Fail> {
+    let alloc = rt.alloc();
+    let mut tx = Tx::begin(Tx::begin(new_state(alloc)?).commit());
+    tx.refuse(Refusal::Funds);
+    let refused = tx.mark();
+    let mut tx = Tx::begin(tx.rollback());
+    tx.lack();
+    let lacking = tx.mark();
+    let _state = tx.rollback();
+    assert!(&rt; refused == Mark::Refused(Refusal::Funds) && lacking == Mark::NoMemory);
+    Ok(())
 }

@@ -1,0 +1,107 @@
+//! The listed tokens and the pairs.
+ghost use Rattle.std.specs.Prelude.{◌≡◌, ◌++◌, ◌∷◌, [], OnOk, OnErr, false, None, IsSome};
+ghost use Rattle.amm_model.specs.Ledger.{done, with_pair, list, is_listed, pair_of, add_pair, zero_pair};
+ghost use Rattle.amm_state.specs.declared.mark.Mark.{Mark};
+ghost use Rattle.amm_state.specs.Book.{with_token, with_pairs};
+ghost use Rattle.amm_state.specs.Tx.{Meets};
+
+use super::Tx;
+use crate::journal::Undo;
+use amm_model::{Fault, PairRecord, Refusal};
+use amm_names::{Memory, PoolName, TokenName};
+use std::alloc::Global;
+
+const TOKEN_LIMIT: usize = 64;
+
+const PAIR_LIMIT: usize = 256;
+
+impl Tx {
+    /// Lists the token, if it is not listed. `TokenLimit` exactly where 64 others are.
+    pub fn list_token(&mut self, alloc: Global, token: &TokenName) -> Result<(), Fault>
+        requires { self.old.mark ≡ Mark.Clean }
+        ensures { Meets self.old self.new result (list self.old.present token.now) }
+    {
+        if self.book.has_token(token) {
+            return Ok(());
+        }
+        if self.book.token_count() >= TOKEN_LIMIT {
+            return Err(self.refuse(Refusal::TokenLimit));
+        }
+        match self.add_token(token) {
+            Ok(()) => Ok(()),
+            Err(_) => Err(self.lack()),
+        }
+    }
+
+    // Lists the token, and notes that it was not.
+    fn add_token(&mut self, token: &TokenName) -> Result<(), Memory>
+        requires { is_listed self.old.present.tokens token.now ≡ false }
+        ensures ok { OnOk result (self.new ≡ record self.old { present = with_token self.old.present token.now }) }
+        ensures err { OnErr result (self.new ≡ self.old) }
+    {
+        self.journal.push(Undo::Token)?;
+        match self.book.add_token(token) {
+            Ok(()) => Ok(()),
+            Err(Memory) => {
+                let _ = self.journal.pop();
+                Err(Memory)
+            }
+        }
+    }
+
+    /// Adds a pair with nothing in it, last. `PairLimit` exactly where 256 are.
+    pub fn add_pair(&mut self, alloc: Global, pool: &PoolName) -> Result<(), Fault>
+        requires clean { self.old.mark ≡ Mark.Clean }
+        requires absent { pair_of self.old.present.pairs pool.now ≡ None }
+        ensures { Meets self.old self.new result (add_pair self.old.present pool.now) }
+    {
+        if self.book.pair_count() >= PAIR_LIMIT {
+            return Err(self.refuse(Refusal::PairLimit));
+        }
+        match self.put_pair(pool) {
+            Ok(()) => Ok(()),
+            Err(_) => Err(self.lack()),
+        }
+    }
+
+    // Adds a pair, and notes that it was not there.
+    fn put_pair(&mut self, pool: &PoolName) -> Result<(), Memory>
+        requires { pair_of self.old.present.pairs pool.now ≡ None }
+        ensures ok { OnOk result (self.new ≡ record self.old { present = with_pairs self.old.present (self.old.present.pairs ++ (pool.now, zero_pair) ∷ []) }) }
+        ensures err { OnErr result (self.new ≡ self.old) }
+    {
+        self.journal.push(Undo::NewPair)?;
+        match self.book.add_pair(pool) {
+            Ok(()) => Ok(()),
+            Err(Memory) => {
+                let _ = self.journal.pop();
+                Err(Memory)
+            }
+        }
+    }
+
+    /// Writes the record of a pair. Only want of memory refuses, and then the ledger stays.
+    pub fn set_pair(&mut self, alloc: Global, pool: &PoolName, new: PairRecord) -> Result<(), Fault>
+        requires clean { self.old.mark ≡ Mark.Clean }
+        requires there { IsSome (pair_of self.old.present.pairs pool.now) }
+        ensures meets { Meets self.old self.new result (done (with_pair self.old.present pool.now new)) }
+        ensures kept { OnErr result (self.new.present ≡ self.old.present) }
+    {
+        match self.write_pair(pool, new) {
+            Ok(()) => Ok(()),
+            Err(_) => Err(self.lack()),
+        }
+    }
+
+    // Writes the record of a pair, and notes the old one.
+    fn write_pair(&mut self, pool: &PoolName, new: PairRecord) -> Result<(), Memory>
+        requires { IsSome (pair_of self.old.present.pairs pool.now) }
+        ensures ok { OnOk result (self.new ≡ record self.old { present = with_pair self.old.present pool.now new }) }
+        ensures err { OnErr result (self.new ≡ self.old) }
+    {
+        let before = *self.book.pair(pool).unwrap();
+        self.journal.push(Undo::Pair(*pool, before))?;
+        self.book.set_pair(pool, new);
+        Ok(())
+    }
+}
