@@ -11,6 +11,7 @@ use crate::asset::send;
 use amm_factory::create;
 use amm_model::{Answer, Asset, Fault, Holder, PoolName, Refusal, Step, UserName};
 use amm_pair::{abandon_loan, burn, close_loan, mint, open_loan, skim, swap, sync};
+use amm_path::{add, remove, swap_exact_in, swap_exact_out};
 use amm_state::{Mark, Tx};
 use std::alloc::Global;
 
@@ -45,7 +46,31 @@ pub fn run_step(alloc: Global, tx: &mut Tx, actor: &UserName, step: &Step) -> Re
             out1,
             steps,
         } => flash(alloc, tx, actor, pool, *out0, *out1, steps),
-        _ => Err(tx.refuse(Refusal::BadCommand)),
+        Step::Add { want, to, deadline } => {
+            Ok(Answer::Add(add(alloc, tx, actor, want, to, *deadline)?))
+        }
+        Step::Remove { want, to, deadline } => {
+            Ok(Answer::Remove(remove(alloc, tx, actor, want, to, *deadline)?))
+        }
+        Step::SwapIn {
+            path,
+            x,
+            min,
+            to,
+            deadline,
+        } => Ok(Answer::SwapIn {
+            amounts: swap_exact_in(alloc, tx, actor, path, *x, *min, to, *deadline)?,
+        }),
+        Step::SwapOut {
+            path,
+            y,
+            max,
+            to,
+            deadline,
+        } => Ok(Answer::SwapOut {
+            amounts: swap_exact_out(alloc, tx, actor, path, *y, *max, to, *deadline)?,
+        }),
+        Step::Settle { .. } => Err(tx.refuse(Refusal::BadCommand)),
     }
 }
 
