@@ -1,5 +1,5 @@
 -- What each accepted call of the router keeps: the locks, what the zero holder has, the totals of tokens, the settings, and soundness.
-use Rattle.std.proofs.Common.{◌≡◌, ◌≢◌, ℕ, nat_lt, nat_le, ◌==◌, ◌&&◌, ◌||◌, Bool, true, false, List, [], ◌∷◌, Option, Some, None, Result, Ok, Err, IsSome, inl, inr, refl, sym, ap, ◌∙◌, subst}
+use Rattle.std.proofs.Common.{◌≡◌, ◌≢◌, ℕ, nat_lt, Bool, true, false, List, [], ◌∷◌, Option, Some, None, Ok, inl, inr, sym, ap, ◌∙◌, subst}
 use Rattle.std.specs.Prelude.{IsTrue, if◌then◌else◌, ok_or}
 use Rattle.std.specs.Option.{is_some}
 use Rattle.std.specs.Str.{bytes_eq}
@@ -10,9 +10,6 @@ use Rattle.amm_names.specs.declared.holder.Asset.TheVariants as assets
 use Rattle.amm_names.specs.Names.{is_token_name}
 use Rattle.amm_model.specs.Swap.{IsFee}
 use Rattle.amm_names.specs.Pools.{pool_between, pool_token0, pool_token1, is_before}
-use Rattle.amm_model.specs.declared.pair.PairRecord.{PairRecord}
-use Rattle.amm_model.specs.declared.pair.MintReceipt.{MintReceipt}
-use Rattle.amm_model.specs.declared.pair.BurnReceipt.{BurnReceipt}
 use Rattle.amm_model.specs.declared.pair.AddReceipt.{AddReceipt}
 use Rattle.amm_model.specs.declared.pair.RemoveReceipt.{RemoveReceipt}
 use Rattle.amm_model.specs.declared.trade.Side.{Side}
@@ -30,23 +27,24 @@ use Rattle.amm_model.specs.Router.{Plan, seen_from, side_of, out_along, in_along
 use Rattle.amm_model.specs.Sound.{IsSound, IsAtRest}
 use Rattle.amm_model.specs.Later.{Later}
 use Rattle.amm_model.proofs.Guards.{given, not_refused, same_answer}
+use Rattle.amm_model.proofs.Names.{same_name_itself}
 use Rattle.amm_model.proofs.PlainSound.{transfer_sound}
 use Rattle.amm_model.proofs.Keeping.{Keeps, keeps_then, keeps_same, SameSettings, same_settings, same_settings_then, rest_kept, transfer_keeps, transfer_same_settings}
 use Rattle.amm_model.proofs.Laters.{later_of}
 use Rattle.amm_pair.proofs.Lending.{swap_sound, swap_keeps, swap_same_settings}
 use Rattle.amm_pair.proofs.Shares.{mint_sound, mint_keeps, mint_same_settings}
 use Rattle.amm_pair.proofs.Burning.{burn_sound, burn_keeps, burn_same_settings}
-use Rattle.amm_factory.proofs.Creation.{AreTokens, tokens_between, create_sound, create_keeps, create_same_settings}
+use Rattle.amm_factory.proofs.Creation.{tokens_between, create_sound, create_keeps, create_same_settings}
 
 pub record Kept (old new : Ledger) : Type 0 where
   pub keeps : Keeps old new
   pub settings : SameSettings old new
   pub sound : IsSound old → IsSound new
 
-kept_same : (a : Ledger) → Kept a a
+pub kept_same : (a : Ledger) → Kept a a
 kept_same a = record { keeps = keeps_same a; settings = same_settings a; sound = λ sound. sound }
 
-kept_then : (a b c : Ledger) → Kept a b → Kept b c → Kept a c
+pub kept_then : (a b c : Ledger) → Kept a b → Kept b c → Kept a c
 kept_then a b c first second = record {
   keeps = keeps_then a b c first.keeps second.keeps;
   settings = same_settings_then a b c first.settings second.settings;
@@ -119,13 +117,13 @@ exact_out_kept ledger actor path y most to deadline made is =
 record FitsPair (a b : List ℕ) (fee : ℕ) : Type 0 where
   first : IsTrue (is_token_name a)
   second : IsTrue (is_token_name b)
-  fee : IsFee fee
+  at_a_fee : IsFee fee
 
 module _ (ledger : Ledger) (a b : List ℕ) (fee : ℕ) (made : Made (List ℕ)) where
   creates : (there : Bool) (pool : List ℕ) → (◌≡◌ {A = Outcome (List ℕ)} (if there then Ok (record { ledger = ledger; answer = pool }) else create ledger a b fee) (Ok made)) → FitsPair a b fee → Kept ledger made.ledger
   creates true pool is fits = subst (λ (m : Made (List ℕ)). Kept ledger m.ledger) (same_answer (record { ledger = ledger; answer = pool }) made is) (kept_same ledger)
   creates false pool is fits =
-      record { keeps = create_keeps ledger a b fee made is; settings = create_same_settings ledger a b fee made is; sound = create_sound ledger a b fee made fits.first fits.second fits.fee is }
+      record { keeps = create_keeps ledger a b fee made is; settings = create_same_settings ledger a b fee made is; sound = create_sound ledger a b fee made fits.first fits.second fits.at_a_fee is }
 
   with_pool_kept : FitsPair a b fee → with_pool ledger a b fee ≡ Ok made → Kept ledger made.ledger
   unfolding with_pool
@@ -145,7 +143,7 @@ add_kept ledger actor want to deadline made fits is =
     let minted = given (mint second.value.ledger side.value.pool to) _ made second.after in
     let e = same_answer (record { ledger = minted.value.ledger; answer = record { a = amounts.value.a; b = amounts.value.b; shares = minted.value.answer.shares } }) made minted.after in
     subst (λ (m : Made AddReceipt). Kept ledger m.ledger) e
-    (kept_then ledger there.value.ledger minted.value.ledger (with_pool_kept ledger want.a want.b want.fee there.value (record { first = fits.a; second = fits.b; fee = fits.fee }) there.was)
+    (kept_then ledger there.value.ledger minted.value.ledger (with_pool_kept ledger want.a want.b want.fee there.value (record { first = fits.a; second = fits.b; at_a_fee = fits.fee }) there.was)
     (kept_then there.value.ledger first.value.ledger minted.value.ledger (transfer_kept there.value.ledger (assets.Token want.a) actor (holders.Pool side.value.pool) amounts.value.a first.value first.was)
     (kept_then first.value.ledger second.value.ledger minted.value.ledger (transfer_kept first.value.ledger (assets.Token want.b) actor (holders.Pool side.value.pool) amounts.value.b second.value second.was)
     (record {
@@ -168,10 +166,10 @@ side_named ledger a b fee side is =
 
 not_with_itself : (a : List ℕ) (fee : ℕ) (pool : List ℕ) → pool_between a a fee ≡ Some pool → ⊥
 unfolding pool_between
-not_with_itself a fee pool is = let same : bytes_eq a a ≡ true = bytes_eq-itself a in cc
+not_with_itself a fee pool is = let same : bytes_eq a a ≡ true = same_name_itself a in cc
 
 sides_apart : (a b : List ℕ) (fee : ℕ) (pool : List ℕ) → FitsPair a b fee → pool_between a b fee ≡ Some pool → pool_token0 pool ≢ pool_token1 pool
-sides_apart a b fee pool fits named same = elim (tokens_between a b fee fits.first fits.second fits.fee pool named) [
+sides_apart a b fee pool fits named same = elim (tokens_between a b fee fits.first fits.second fits.at_a_fee pool named) [
   | inl e ↦ not_with_itself a fee pool (ap (λ (x : List ℕ). pool_between a x fee) (sym e.0 ∙ same ∙ e.1) ∙ named)
   | inr e ↦ not_with_itself a fee pool (ap (λ (x : List ℕ). pool_between a x fee) (sym e.1 ∙ sym same ∙ e.0) ∙ named)
 ]
@@ -188,7 +186,7 @@ remove_kept ledger actor want to deadline made fits is =
     let enough_a = not_refused (nat_lt paid.a want.a_min) code.InsufficientAAmount _ made burnt.after in
     let enough_b = not_refused (nat_lt paid.b want.b_min) code.InsufficientBAmount _ made enough_a.1 in
     let e = same_answer (record { ledger = burnt.value.ledger; answer = paid }) made enough_b.1 in
-    let apart = sides_apart want.a want.b want.fee side.value.pool (record { first = fits.a; second = fits.b; fee = fits.fee }) (side_named ledger want.a want.b want.fee side.value side.was) in
+    let apart = sides_apart want.a want.b want.fee side.value.pool (record { first = fits.a; second = fits.b; at_a_fee = fits.fee }) (side_named ledger want.a want.b want.fee side.value side.was) in
     subst (λ (m : Made RemoveReceipt). Kept ledger m.ledger) e
     (kept_then ledger sent.value.ledger burnt.value.ledger (transfer_kept ledger (assets.Share side.value.pool) actor (holders.Pool side.value.pool) want.shares sent.value sent.was)
     (record {

@@ -6,6 +6,8 @@
 //! reserves at the start, and the pair's own tests decide at each swap.
 #![tactic(auto)]
 
+mod exact_in;
+mod exact_out;
 mod liquidity;
 mod payments;
 mod plan;
@@ -13,6 +15,7 @@ mod quotes;
 mod sides;
 mod swaps;
 
+pub use exact_in::swap_exact_in;
+pub use exact_out::swap_exact_out;
 pub use liquidity::{add, remove};
 pub use quotes::{amounts_in, amounts_out};
-pub use swaps::{swap_exact_in, swap_exact_out};

@@ -1,108 +1,19 @@
-//! Swaps along a path.
-ghost use Rattle.std.specs.Prelude.{◌≡◌, ◌≤◌, OnOk};
-ghost use Rattle.amm_model.specs.Fits.{IsPath};
-ghost use Rattle.amm_model.specs.Ledger.{total_limit};
-ghost use Rattle.amm_model.specs.Router.{amounts_of, last_of, asset_in, receiver_of, swap_along, pay_first, trade_along, exact_in, exact_out};
+//! The payment of a plan's input, and its swaps.
+ghost use Rattle.std.specs.Prelude.{◌≡◌, OnOk};
+ghost use Rattle.amm_model.specs.Router.{amounts_of, asset_in, receiver_of, swap_along, pay_first, trade_along};
 ghost use Rattle.amm_model.specs.Sound.{IsSound};
 ghost use Rattle.amm_state.specs.Tx.{Meets};
 
-use crate::payments::{fail, send};
-use crate::plan::{Plan, amounts_of, in_along, out_along};
-use amm_model::{AmountList, Asset, Fault, Holder, Refusal, RoutePath, Trade, UserName};
+use crate::payments::send;
+use crate::plan::Plan;
+use amm_model::{AmountList, Asset, Fault, Holder, Trade, UserName};
 use amm_pair::swap;
 use amm_state::{Mark, Tx};
 use std::alloc::Global;
 
-/// Swaps an input of `x` along a path for an output of at least `min`, and gives the amounts.
-/// `x` is at most 2^52-1.
-///
-/// Refused, in this order: EXPIRED; the refusals of `amounts_out`; INSUFFICIENT_OUTPUT_AMOUNT;
-/// FUNDS; those of the swap with each pool.
-#[tactic(auto, unfolding(amm_model::specs::Router::exact_in))]
-pub fn swap_exact_in(
-    alloc: Global,
-    tx: &mut Tx,
-    actor: &UserName,
-    path: &RoutePath,
-    x: u64,
-    min: u64,
-    to: &Holder,
-    deadline: u64,
-) -> Result<AmountList, Fault>
-    requires clean { tx.old.mark ≡ Mark.Clean }
-    requires sound { IsSound tx.old.present }
-    requires path { IsPath path.now }
-    requires amount { x ≤ total_limit }
-    ensures meets { Meets tx.old tx.new result (exact_in tx.old.present actor.now path.now x min to.now deadline) }
-    ensures sound { OnOk result (IsSound tx.new.present) }
-{
-    if deadline < tx.book().time() {
-        return Err(tx.refuse(Refusal::Expired));
-    }
-    let plan = match out_along(alloc, tx.book(), path, x) {
-        Ok(plan) => plan,
-        Err(fault) => return Err(fail(tx, fault)),
-    };
-    let amounts = match amounts_of(alloc, &plan) {
-        Ok(amounts) => amounts,
-        Err(_) => return Err(tx.lack()),
-    };
-    if last_of(&amounts) < min {
-        return Err(tx.refuse(Refusal::InsufficientOutputAmount));
-    }
-    trade_along(alloc, tx, actor, &plan, amounts, to)
-}
-
-/// Swaps an input of at most `max` along a path for an output of `y`, and gives the amounts.
-/// `y` is at most 2^52-1.
-///
-/// Refused, in this order: EXPIRED; the refusals of `amounts_in`; EXCESSIVE_INPUT_AMOUNT; FUNDS;
-/// those of the swap with each pool.
-#[tactic(auto, unfolding(amm_model::specs::Router::exact_out))]
-pub fn swap_exact_out(
-    alloc: Global,
-    tx: &mut Tx,
-    actor: &UserName,
-    path: &RoutePath,
-    y: u64,
-    max: u64,
-    to: &Holder,
-    deadline: u64,
-) -> Result<AmountList, Fault>
-    requires clean { tx.old.mark ≡ Mark.Clean }
-    requires sound { IsSound tx.old.present }
-    requires path { IsPath path.now }
-    requires amount { y ≤ total_limit }
-    ensures meets { Meets tx.old tx.new result (exact_out tx.old.present actor.now path.now y max to.now deadline) }
-    ensures sound { OnOk result (IsSound tx.new.present) }
-{
-    if deadline < tx.book().time() {
-        return Err(tx.refuse(Refusal::Expired));
-    }
-    let plan = match in_along(alloc, tx.book(), path, y) {
-        Ok(plan) => plan,
-        Err(fault) => return Err(fail(tx, fault)),
-    };
-    if plan.input > max {
-        return Err(tx.refuse(Refusal::ExcessiveInputAmount));
-    }
-    let amounts = match amounts_of(alloc, &plan) {
-        Ok(amounts) => amounts,
-        Err(_) => return Err(tx.lack()),
-    };
-    trade_along(alloc, tx, actor, &plan, amounts, to)
-}
-
-// The last of the amounts, 0 where there is none.
-fn last_of(amounts: &AmountList) -> u64
-    ensures { result ≡ last_of amounts.now }
-{
-    amounts.as_slice().last().copied().unwrap_or(0)
-}
-
-// Pays the input of a plan to its first pool, and swaps with each.
+/// Pays the input of a plan to its first pool, swaps with each, and gives the amounts.
 #[tactic(auto, unfolding(amm_model::specs::Router::trade_along))]
-fn trade_along(
+pub(crate) fn trade_along(
     alloc: Global,
     tx: &mut Tx,
     actor: &UserName,
