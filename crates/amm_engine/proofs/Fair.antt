@@ -28,7 +28,7 @@ use Rattle.amm_model.proofs.Keeping.{Keeps, plain_keeps, rest_kept}
 use Rattle.amm_model.proofs.PlainSound.{list_listed, list_plain, list_rest, list_totals, issue_plain, issue_rest, issue_deposited, retire_plain, retire_rest, retire_withdrawn, set_time_plain, set_time_sound, set_time_totals}
 use Rattle.amm_factory.proofs.Settings.{set_fee_to_keeps, set_fee_to_sound, set_setter_keeps, set_setter_sound}
 use Rattle.amm_model.proofs.Fitting.{reads_fitting}
-use Rattle.amm_engine.proofs.ScriptLaws.{step_kept}
+use Rattle.amm_script.proofs.Laws.{step_kept}
 use Rattle.amm_engine.proofs.Told.{IsAccepted, step_told}
 
 -- What holds after a command that was accepted.

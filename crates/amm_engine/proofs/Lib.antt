@@ -1,6 +1,5 @@
 pub mod Parts
 pub mod Told
-pub mod ScriptLaws
 pub mod Fair
 pub mod Steps
 pub mod Streaming

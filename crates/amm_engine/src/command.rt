@@ -7,11 +7,11 @@ ghost use Rattle.amm_model.specs.Meaning.{deposit as deposit_in, outcome_of, wit
 ghost use Rattle.amm_model.specs.Sound.{IsSound};
 ghost use Rattle.amm_state.specs.Tx.{Meets};
 
-use crate::standin::{known, run_step};
 use amm_model::{
     Answer, Asset, Command, Fault, Holder, PoolName, Refusal, RoutePath, TokenName, UserName,
 };
 use amm_path::{amounts_in, amounts_out};
+use amm_script::{known, run_step};
 use amm_state::{Mark, Tx};
 use std::alloc::Global;
 

@@ -6,7 +6,6 @@
 mod command;
 mod engine;
 mod line;
-mod standin;
 mod status;
 
 pub use engine::Engine;
