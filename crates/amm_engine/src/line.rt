@@ -8,17 +8,13 @@ ghost use Rattle.amm_model.specs.ReplyText.{reply_text, CanBeWritten};
 ghost use Rattle.amm_engine.specs.Commands.{AnswersCommand, Accepted, Declined};
 
 use crate::command::perform;
-use amm_reply::append;
 use amm_model::{Answer, Command, Fault, Memory, Reply};
+use amm_reply::append;
 use amm_state::{State, Tx};
 use std::alloc::Global;
 
 /// Makes the text that of the reply.
-pub(crate) fn write_reply(
-    text: &mut Vec<u8>,
-    number: u64,
-    answer: Answer,
-) -> Result<(), Memory>
+pub(crate) fn write_reply(text: &mut Vec<u8>, number: u64, answer: Answer) -> Result<(), Memory>
     requires { CanBeWritten answer }
     ensures { OnOk result (text.new.items ≡ reply_text (record { line = number; answer = answer })) }
 {

@@ -11,4 +11,5 @@ returns-in-Ok-clause-ok c = on_ok_by _ c.answer_command.ensures.ok (λ a. Answer
 pub returns-in-Err-Refused-clause-ok : goal.returns-in-Err-Refused-clause-ok
 returns-in-Err-Refused-clause-ok c =
     let fails = rw c.in-Err-Refused.field-0-is at c.in-Err-Refused.ensures in
-    on_ok_by _ c.write_reply.ensures (λ is. AnswersLine-unread _ _ _ _ _ fails is)
+    let written = rw c.in-Err-Refused.why-is at c.write_reply.ensures in
+    on_ok_by _ written (λ is. AnswersLine-unread _ _ _ _ _ fails is)
