@@ -12,7 +12,7 @@ use Rattle.amm_model.specs.declared.problem.TokenPlaces.{TokenPlaces}
 use Rattle.amm_model.specs.declared.route.Leg.{Leg}
 use Rattle.amm_model.specs.Swap.{amount_out_of}
 use Rattle.amm_model.specs.Routing.{Name, ProblemView, IsProblem, fee_of, places_of, token_place, no_pool, token0_of, token1_of}
-use Rattle.amm_model.specs.Legs.{Holdings, IsLeg, AreLegs, after_leg, after_legs, starting_with, used_after, no_leg, leg_pool, token_in, token_out, reserve_in, reserve_out}
+use Rattle.amm_model.specs.Legs.{Holdings, IsLeg, after_legs, starting_with, used_after, no_leg, leg_pool, token_in, token_out}
 use Rattle.amm_model.proofs.Swap.{amount_out-lt}
 use Rattle.amm_model.proofs.Problems.{once_tokens, source_there, tokens_there, tokens_few}
 use Rattle.amm_model.proofs.LegLaw.{legs_few}
@@ -127,9 +127,9 @@ follows_next problem sound legs i inside held used follows next from to from-is 
   amounts = λ j below. moved held from to leg.input leg.output j from-in to-in
       ∙ ap (λ (b : Bool). (get_or held j 0 - cond b leg.input 0) + cond (nat_eq j to) leg.output 0) (ap (nat_eq j) from-is ∙ sym (same_at problem.tokens once (token_in problem.pools leg) there.0 j below))
       ∙ ap (λ (b : Bool). (get_or held j 0 - cond (bytes_eq (get_or problem.tokens j []) (token_in problem.pools leg)) leg.input 0) + cond b leg.output 0)
-          (ap (nat_eq j) to-is ∙ sym (same_at problem.tokens once (token_out problem.pools leg) there.1 j below))
+      (ap (nat_eq j) to-is ∙ sym (same_at problem.tokens once (token_out problem.pools leg) there.1 j below))
       ∙ ap (λ (n : ℕ). (n - cond (bytes_eq (get_or problem.tokens j []) (token_in problem.pools leg)) leg.input 0) + cond (bytes_eq (get_or problem.tokens j []) (token_out problem.pools leg)) leg.output 0)
-          (follows.amounts j below)
+      (follows.amounts j below)
       ∙ sym (after_legs-more problem.pools (starting_with problem) legs i (get_or problem.tokens j []) inside);
   below = λ j. rw (moved held from to leg.input leg.output j from-in to-in, length-take-more legs i inside) (small (nat_eq j from) (nat_eq j to) j (follows.below j));
   marks = λ place within. rw (used_after-more [] legs i inside) (marked used leg.pool (used_after [] (take i legs)) follows.wide (omega (arith, next.there, sound.parts.few)) follows.marks place within);

@@ -75,7 +75,10 @@ mod tests {
         let direct = leg(1, true, 68750, 64146);
         let first = leg(0, true, 31250, 30214);
         let second = leg(2, true, 30214, 29242);
-        assert_eq!(rt; delivered(rt.alloc(), &[direct, first, second]), Some(93388));
+        assert_eq!(rt;
+            delivered(rt.alloc(), &[direct, first, second]),
+            Some(93388)
+        );
         assert_eq!(rt; delivered(rt.alloc(), &[first, direct]), Some(64146));
         assert_eq!(rt; delivered(rt.alloc(), &[]), Some(0));
     }
