@@ -1,13 +1,11 @@
 -- Legs one by one: what one more leg changes.
-use Rattle.std.proofs.Common.{◌≡◌, ◌≢◌, ℕ, ◌+◌, ◌<◌, ◌≤◌, List, [], ◌∷◌, length, take, arith, zero, suc, refl, get_or}
-use Rattle.std.specs.Prelude.{All, IsTrue, ◌-◌, ◌^◌, if◌then◌else◌, true, false}
+use Rattle.std.proofs.Common.{◌≡◌, ◌≢◌, ℕ, ◌<◌, ◌≤◌, List, [], ◌∷◌, length, take, arith, zero, suc, refl, get_or}
+use Rattle.std.specs.Prelude.{All, if◌then◌else◌}
 use Rattle.amm_model.specs.declared.problem.ProblemPool.{ProblemPool}
 use Rattle.amm_model.specs.declared.route.Leg.{Leg}
-use Rattle.std.specs.Str.{bytes_eq}
-use Rattle.amm_model.specs.Swap.{amount_out_of}
 use Rattle.amm_model.specs.Routing.{Name, no_pool, token0_of, token1_of}
 use Rattle.amm_legs.specs.Progress.{IsPaid}
-use Rattle.amm_model.specs.Legs.{Holdings, IsAdmissible, IsLeg, AreLegs, after_leg, after_legs, used_after, no_leg, token_in}
+use Rattle.amm_model.specs.Legs.{Holdings, IsLeg, AreLegs, after_leg, after_legs, used_after, no_leg}
 
 pub after_legs-more : (pools : List ProblemPool) (held : Holdings) (legs : List Leg) (i : ℕ) (y : Name) → i < length legs →
     after_legs pools held (take (suc i) legs) y ≡ after_leg pools (after_legs pools held (take i legs)) (get_or legs i no_leg) y

@@ -12,7 +12,7 @@ use Rattle.amm_model.specs.declared.problem.TokenPlaces.{TokenPlaces}
 use Rattle.amm_model.specs.declared.route.Leg.{Leg}
 use Rattle.amm_model.specs.Swap.{amount_out_of}
 use Rattle.amm_model.specs.Routing.{Name, ProblemView, IsProblem, fee_of, places_of, token_place, no_pool, token0_of, token1_of}
-use Rattle.amm_model.specs.Legs.{Holdings, IsLeg, AreLegs, after_leg, after_legs, starting_with, used_after, no_leg, leg_pool, token_in, token_out, reserve_in, reserve_out}
+use Rattle.amm_model.specs.Legs.{Holdings, IsLeg, after_legs, starting_with, used_after, no_leg, leg_pool, token_in, token_out}
 use Rattle.amm_model.proofs.Swap.{amount_out-lt}
 use Rattle.amm_model.proofs.Problems.{once_tokens, source_there, tokens_there, tokens_few}
 use Rattle.amm_model.proofs.LegLaw.{legs_few}

@@ -8,9 +8,10 @@ ghost use Rattle.amm_legs.specs.Progress.{Follows, IsNext, IsPaid};
 use amm_model::{Leg, Problem, ProblemPool, TokenPlaces};
 use amm_pool::amount_out;
 
-// A problem has at most 256 pools, and so at most 514 tokens.
+// A problem has at most so many pools.
 const MAX_POOLS: usize = 256;
 
+// And so at most so many tokens: its two ends, and two for each pool.
 const MAX_TOKENS: usize = 514;
 
 // Balances with room for an update are below this.

@@ -1,6 +1,5 @@
-use Rattle.std.proofs.Common.{arith, ◌≡◌, ◌<◌, ◌≤◌, refl, length, ap, get_or, map}
+use Rattle.std.proofs.Common.{arith, ◌<◌, ◌≤◌, refl, length}
 use Rattle.std.proofs.Math.ListN.{length-map}
-use Rattle.amm_model.specs.Routing.{places_of}
 use Rattle.std.proofs.lemmas.List.{take_all}
 use Rattle.amm_bound.proofs.Steps.{source_value-lt, one_more}
 use Rattle.amm_bound.proofs.Law.{no_route_beats_bound}

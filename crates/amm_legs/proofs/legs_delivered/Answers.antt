@@ -1,4 +1,4 @@
-use Rattle.std.proofs.Common.{[], ◌≡◌, true, false, sym}
+use Rattle.std.proofs.Common.{[]}
 use Rattle.amm_model.specs.Legs.{starting_with}
 use Rattle.amm_legs.proofs.Legs.{leg_at}
 use Rattle.amm_legs.proofs.legs_delivered.Goals as goal

@@ -1,8 +1,8 @@
-use Rattle.std.proofs.Common.{arith, [], ◌≡◌, ◌<◌, ◌∙◌, length, get_or, take, refl, ap, sym, if◌then◌else◌}
+use Rattle.std.proofs.Common.{arith, [], ◌<◌, length, get_or, take, refl, ap}
 use Rattle.std.proofs.lemmas.Bool.{leb-true, le-leb}
 use Rattle.std.proofs.lemmas.List.{get_or_read_under}
 use Rattle.amm_model.specs.Routing.{no_pool}
-use Rattle.amm_model.specs.Legs.{after_legs, starting_with, used_after, no_leg, token_in}
+use Rattle.amm_model.specs.Legs.{after_legs, starting_with, used_after, no_leg}
 use Rattle.amm_legs.proofs.Legs.{leg_of}
 use Rattle.amm_legs.proofs.Steps.{held_at, side_places}
 use Rattle.amm_legs.proofs.progress.Progress.admits.Goals as goal

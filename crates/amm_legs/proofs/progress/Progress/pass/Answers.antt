@@ -1,6 +1,5 @@
-use Rattle.std.proofs.Common.{arith, ◌≡◌, ◌<◌, ◌≤◌, ◌∙◌, length, get_or, set, sym, refl, add-one}
-use Rattle.amm_model.specs.Routing.{token_place}
-use Rattle.amm_model.specs.Legs.{no_leg, token_in, token_out}
+use Rattle.std.proofs.Common.{arith, get_or, add-one}
+use Rattle.amm_model.specs.Legs.{no_leg}
 use Rattle.amm_legs.proofs.Steps.{follows_next, held_at, room_left, side_places}
 use Rattle.amm_legs.proofs.progress.Progress.pass.Goals as goal
 
