@@ -48,6 +48,15 @@ fn put_plain(text: &mut Vec<u8>, bytes: &[u8]) -> Result<(), Memory>
     Ok(())
 }
 
+/// A comma and a string in which nothing is escaped.
+pub fn push_plain(text: &mut Vec<u8>, bytes: &[u8]) -> Result<(), Memory>
+    requires { escape bytes.now ≡ bytes.now }
+    ensures { OnOk result (text.new.items ≡ text.old.items ++ next_text (string bytes.now)) }
+{
+    text.push(b',')?;
+    put_plain(text, bytes)
+}
+
 /// The name of a token.
 pub fn put_token(text: &mut Vec<u8>, name: &TokenName) -> Result<(), Memory>
     ensures { OnOk result (text.new.items ≡ text.old.items ++ compact_text (string name.now)) }

@@ -9,7 +9,7 @@ ghost use Rattle.amm_model.specs.Routing.{token0_of, token1_of};
 ghost use Rattle.amm_model.specs.declared.route.Leg as legs_view;
 ghost use Rattle.amm_cert.specs.Texts.{next_text, joined_text};
 
-use crate::piece::{put_comma, put_pool, put_token, push_number, push_token};
+use crate::piece::{push_number, push_token, put_comma, put_pool, put_token};
 use amm_model::{Leg, Memory, ProblemPool, TokenName};
 
 fn put_problem_pool(text: &mut Vec<u8>, pool: &ProblemPool) -> Result<(), Memory>

@@ -127,9 +127,9 @@ follows_next problem sound legs i inside held used follows next from to from-is 
   amounts = λ j below. moved held from to leg.input leg.output j from-in to-in
       ∙ ap (λ (b : Bool). (get_or held j 0 - cond b leg.input 0) + cond (nat_eq j to) leg.output 0) (ap (nat_eq j) from-is ∙ sym (same_at problem.tokens once (token_in problem.pools leg) there.0 j below))
       ∙ ap (λ (b : Bool). (get_or held j 0 - cond (bytes_eq (get_or problem.tokens j []) (token_in problem.pools leg)) leg.input 0) + cond b leg.output 0)
-          (ap (nat_eq j) to-is ∙ sym (same_at problem.tokens once (token_out problem.pools leg) there.1 j below))
+      (ap (nat_eq j) to-is ∙ sym (same_at problem.tokens once (token_out problem.pools leg) there.1 j below))
       ∙ ap (λ (n : ℕ). (n - cond (bytes_eq (get_or problem.tokens j []) (token_in problem.pools leg)) leg.input 0) + cond (bytes_eq (get_or problem.tokens j []) (token_out problem.pools leg)) leg.output 0)
-          (follows.amounts j below)
+      (follows.amounts j below)
       ∙ sym (after_legs-more problem.pools (starting_with problem) legs i (get_or problem.tokens j []) inside);
   below = λ j. rw (moved held from to leg.input leg.output j from-in to-in, length-take-more legs i inside) (small (nat_eq j from) (nat_eq j to) j (follows.below j));
   marks = λ place within. rw (used_after-more [] legs i inside) (marked used leg.pool (used_after [] (take i legs)) follows.wide (omega (arith, next.there, sound.parts.few)) follows.marks place within);

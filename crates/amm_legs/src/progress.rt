@@ -10,6 +10,7 @@ use amm_pool::amount_out;
 
 // A problem has at most 256 pools, and so at most 514 tokens.
 const MAX_POOLS: usize = 256;
+
 const MAX_TOKENS: usize = 514;
 
 // Balances with room for an update are below this.

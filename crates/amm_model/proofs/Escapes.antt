@@ -1,5 +1,5 @@
 -- Names and digits stand in JSON as they are.
-use Rattle.std.proofs.Common.{◌≡◌, ℕ, ◌+◌, ◌%◌, ◌/◌, ◌^◌, ◌<◌, ◌≤◌, List, [], ◌∷◌, ◌++◌, Bool, true, false, ◌||◌, ◌==◌, refl, sym, ap, ap₂, ◌∙◌, ◌⊎◌, inl, inr, arith, decimal}
+use Rattle.std.proofs.Common.{◌≡◌, ℕ, ◌+◌, ◌%◌, ◌^◌, ◌<◌, List, [], ◌∷◌, ◌++◌, true, refl, sym, ap, ap₂, ◌∙◌, ◌⊎◌, inl, inr, arith, decimal}
 use Rattle.std.specs.Prelude.{IsTrue}
 use Rattle.std.specs.List.{list_all}
 use Rattle.std.specs.Cmp.{first_so, second_so}
@@ -8,6 +8,9 @@ use Rattle.std.proofs.lemmas.Grind.{flat_map-append}
 use Rattle.std.proofs.lemmas.Fmt.{decimal_by_steps_wide}
 use Rattle.json.specs.Print.{escape, escape_byte}
 use Rattle.json.proofs.Printed.Strings.{escape_byte_plain}
+use Rattle.amm_model.specs.declared.fault.Refusal.{Refusal}
+use Rattle.amm_model.specs.declared.fault.Refusal.TheVariants as refusals
+use Rattle.amm_model.specs.Refusals.{refusal_word}
 use Rattle.amm_names.specs.Names.{is_token_name}
 use Rattle.amm_names.specs.Pools.{is_pool_name, pool_spelling, fee_spelling, pool_token0, pool_token1, pool_fee, is_fee}
 use Rattle.amm_names.specs.Spelling.{is_token_byte, token_bytes, fee_cases, parts_are_pool, parts_spell}
@@ -57,3 +60,41 @@ escape-pool bs name =
     let parts = parts_are_pool bs name in
     let spelled = parts_spell bs name in
     ap escape spelled ∙ escape-spelling (pool_token0 bs) (pool_token1 bs) (pool_fee bs) parts.first parts.second parts.at_a_fee ∙ sym spelled
+
+-- ---- words
+
+pub escape-word : (why : Refusal) → escape (refusal_word why) ≡ refusal_word why
+unfolding escape_byte
+escape-word refusals.BadJson = refl
+escape-word refusals.BadCommand = refl
+escape-word refusals.LongLine = refl
+escape-word refusals.TokenLimit = refl
+escape-word refusals.TotalLimit = refl
+escape-word refusals.UnknownToken = refl
+escape-word refusals.Funds = refl
+escape-word refusals.TimeBack = refl
+escape-word refusals.Identical = refl
+escape-word refusals.PairExists = refl
+escape-word refusals.PairLimit = refl
+escape-word refusals.Forbidden = refl
+escape-word refusals.NoPair = refl
+escape-word refusals.Locked = refl
+escape-word refusals.InsufficientOutputAmount = refl
+escape-word refusals.InsufficientLiquidity = refl
+escape-word refusals.InvalidTo = refl
+escape-word refusals.InsufficientInputAmount = refl
+escape-word refusals.K = refl
+escape-word refusals.Overflow = refl
+escape-word refusals.InsufficientLiquidityMinted = refl
+escape-word refusals.InsufficientLiquidityBurned = refl
+escape-word refusals.Expired = refl
+escape-word refusals.InsufficientAAmount = refl
+escape-word refusals.InsufficientBAmount = refl
+escape-word refusals.InsufficientAmount = refl
+escape-word refusals.ExcessiveInputAmount = refl
+escape-word refusals.AmountLimit = refl
+escape-word refusals.ZeroAmount = refl
+escape-word refusals.NoRoute = refl
+escape-word refusals.QuoteLimit = refl
+escape-word refusals.NoQuote = refl
+escape-word refusals.Stale = refl

@@ -14,6 +14,7 @@ use Rattle.amm_model.specs.Ledger.{Ledger, Outcome, done, balance, total, list, 
 use Rattle.amm_model.specs.Pools.{held0, held1, supply}
 use Rattle.amm_model.specs.Operations.{mint, burn, swap, skim, sync, lend, give_back}
 use Rattle.amm_model.specs.Factory.{create, set_fee_to, set_setter}
+use Rattle.amm_model.specs.Router.{add, remove, exact_in, exact_out, amounts_out, amounts_in}
 use Rattle.amm_model.specs.CommandView as view
 use Rattle.amm_model.specs.CommandView.{CommandView, Move, Moves}
 
@@ -67,7 +68,11 @@ unfoldable mutual
     lent ← lend ledger pool out0 out1 (holders.User actor)
     ran ← meaning_of_all lent.ledger actor steps
     as_answer answers.Flash (give_back ran.ledger pool out0 out1)
-  meaning ledger actor _ = Err code.BadCommand
+  meaning ledger actor (view.add want to deadline) = as_answer answers.Add (add ledger actor want to deadline)
+  meaning ledger actor (view.remove want to deadline) = as_answer answers.Remove (remove ledger actor want to deadline)
+  meaning ledger actor (view.swap_in path x least to deadline) = as_answer answers.SwapIn (exact_in ledger actor path x least to deadline)
+  meaning ledger actor (view.swap_out path y most to deadline) = as_answer answers.SwapOut (exact_out ledger actor path y most to deadline)
+  meaning ledger actor (view.settle quote deadline) = Err code.BadCommand
 
   -- what a list of steps does, one after another; the first code ends it
   pub meaning_of_all : Ledger → (actor : List ℕ) → Moves → Outcome (Unit {0})
@@ -99,6 +104,12 @@ outcome_of ledger (view.withdraw user token n) = withdraw ledger user token n
 outcome_of ledger (view.time n) = answering answers.Time (set_time ledger n)
 outcome_of ledger (view.fee_to actor to) = answering answers.FeeTo (set_fee_to ledger actor to)
 outcome_of ledger (view.setter actor to) = answering answers.Setter (set_setter ledger actor to)
+outcome_of ledger (view.quote_out path n) = do
+  amounts ← amounts_out ledger path n
+  told ledger (answers.QuoteOut amounts)
+outcome_of ledger (view.quote_in path n) = do
+  amounts ← amounts_in ledger path n
+  told ledger (answers.QuoteIn amounts)
 outcome_of ledger (view.pool pool) = do
   pair ← ok_or (pair_of ledger.pairs pool) code.NoPair
   told ledger (answers.Pool pair (held0 ledger pool) (held1 ledger pool) (supply ledger pool))

@@ -41,10 +41,10 @@ pub record Kept (old new : Ledger) : Type 0 where
   pub settings : SameSettings old new
   pub sound : IsSound old → IsSound new
 
-kept_same : (a : Ledger) → Kept a a
+pub kept_same : (a : Ledger) → Kept a a
 kept_same a = record { keeps = keeps_same a; settings = same_settings a; sound = λ sound. sound }
 
-kept_then : (a b c : Ledger) → Kept a b → Kept b c → Kept a c
+pub kept_then : (a b c : Ledger) → Kept a b → Kept b c → Kept a c
 kept_then a b c first second = record {
   keeps = keeps_then a b c first.keeps second.keeps;
   settings = same_settings_then a b c first.settings second.settings;

@@ -1,7 +1,7 @@
 ghost use Rattle.std.specs.Prelude.{◌≡◌, OnOk};
 ghost use Rattle.amm_state.specs.declared.mark.Mark.{Mark};
 
-use crate::{Mark, State, Tx};
+use crate::{Book, Mark, State, Tx};
 use amm_model::{Fault, Refusal};
 use amm_names::{Asset, Holder, PoolName, TokenName, UserName};
 use std::alloc::Global;
@@ -59,9 +59,18 @@ fn rolls_back_many_moves(rt: HostRuntime) -> Result<(), Fail> {
     let filled = fill(alloc, &mut tx, &asset);
     let total = tx.book().total(&asset);
     let state = tx.rollback();
-    assert_eq!(&rt; total, 40000);
-    assert_eq!(&rt; state.book().total(&asset), 0);
+    assert!(&rt; total == 40000 && state.book().total(&asset) == 0);
     filled
+}
+
+// Whether a book is as `State::new` makes it.
+fn is_opening(book: &Book, asset: &Asset) -> bool {
+    book.total(asset) == 0
+        && book.token_count() == 0
+        && book.pair_count() == 0
+        && *book.fee_to() == Holder::Zero
+        && book.setter().as_bytes() == b"admin".as_slice()
+        && book.time() == 0
 }
 
 fn moves(alloc: Global, tx: &mut Tx, token: &TokenName, from: &Holder) -> Result<(), Fault>
@@ -74,12 +83,53 @@ fn moves(alloc: Global, tx: &mut Tx, token: &TokenName, from: &Holder) -> Result
     tx.retire(alloc, &asset, from, 1)
 }
 
+fn shows_moves(book: &Book, token: &TokenName, from: &Holder) -> bool {
+    let asset = Asset::Token(*token);
+    book.has_token(token)
+        && book.token_count() == 1
+        && book.total(&asset) == 9
+        && book.balance(&asset, from) == 5
+}
+
+#[test]
+fn takes_moves_back(rt: HostRuntime) -> Result<(), Fail> {
+    let alloc = rt.alloc();
+    let token = token(alloc)?;
+    let from = user(alloc, 1)?;
+    let mut tx = Tx::begin(new_state(alloc)?);
+    let done = moves(alloc, &mut tx, &token, &from).is_ok();
+    let shown = shows_moves(tx.book(), &token, &from);
+    let state = tx.rollback();
+    assert!(&rt; done && shown && is_opening(state.book(), &Asset::Token(token)));
+    Ok(())
+}
+
 fn sets(alloc: Global, tx: &mut Tx, to: &UserName) -> Result<(), Fault>
     requires { tx.old.mark ≡ Mark.Clean }
 {
     tx.set_fee_to(alloc, &Holder::User(*to))?;
     tx.set_setter(alloc, to)?;
     tx.set_time(alloc, 7)
+}
+
+fn shows_settings(book: &Book, to: &UserName) -> bool {
+    *book.fee_to() == Holder::User(*to) && book.setter() == to && book.time() == 7
+}
+
+#[test]
+fn takes_settings_back(rt: HostRuntime) -> Result<(), Fail> {
+    let alloc = rt.alloc();
+    let asset = Asset::Token(token(alloc)?);
+    let bob = match UserName::read(alloc, b"bob".as_slice()) {
+        Ok(Some(name)) => name,
+        _ => return Err("no user")?,
+    };
+    let mut tx = Tx::begin(new_state(alloc)?);
+    let done = sets(alloc, &mut tx, &bob).is_ok();
+    let shown = shows_settings(tx.book(), &bob);
+    let state = tx.rollback();
+    assert!(&rt; done && shown && is_opening(state.book(), &asset));
+    Ok(())
 }
 
 fn adds_pair(alloc: Global, tx: &mut Tx, pool: &PoolName) -> Result<(), Fault>
@@ -112,57 +162,23 @@ fn writes_pair(alloc: Global, tx: &mut Tx, pool: &PoolName) -> Result<(), Fault>
     locks_pair(alloc, tx, pool)
 }
 
-#[test]
-fn takes_moves_back(rt: HostRuntime) -> Result<(), Fail> {
-    let alloc = rt.alloc();
-    let token = token(alloc)?;
-    let asset = Asset::Token(token);
-    let from = user(alloc, 1)?;
-    let mut tx = Tx::begin(new_state(alloc)?);
-    assert!(&rt; moves(alloc, &mut tx, &token, &from).is_ok());
-    assert!(&rt; tx.book().has_token(&token));
-    assert_eq!(&rt; tx.book().token_count(), 1);
-    assert_eq!(&rt; tx.book().total(&asset), 9);
-    assert_eq!(&rt; tx.book().balance(&asset, &from), 5);
-    let state = tx.rollback();
-    assert_eq!(&rt; state.book().token_count(), 0);
-    assert_eq!(&rt; state.book().total(&asset), 0);
-    Ok(())
-}
-
-#[test]
-fn takes_settings_back(rt: HostRuntime) -> Result<(), Fail> {
-    let alloc = rt.alloc();
-    let bob = match UserName::read(alloc, b"bob".as_slice()) {
-        Ok(Some(name)) => name,
-        _ => return Err("no user")?,
-    };
-    let mut tx = Tx::begin(new_state(alloc)?);
-    assert!(&rt; sets(alloc, &mut tx, &bob).is_ok());
-    assert!(&rt; *tx.book().fee_to() == Holder::User(bob));
-    assert!(&rt; *tx.book().setter() == bob);
-    assert_eq!(&rt; tx.book().time(), 7);
-    let state = tx.rollback();
-    assert!(&rt; *state.book().fee_to() == Holder::Zero);
-    assert!(&rt; state.book().setter().as_bytes() == b"admin".as_slice());
-    assert_eq!(&rt; state.book().time(), 0);
-    Ok(())
+fn shows_pair(book: &Book) -> bool {
+    book.pair_count() == 1 && book.pair_at(0).is_some() && book.any_locked()
 }
 
 #[test]
 fn takes_pairs_back(rt: HostRuntime) -> Result<(), Fail> {
     let alloc = rt.alloc();
+    let asset = Asset::Token(token(alloc)?);
     let pool = match PoolName::read(alloc, b"A/B".as_slice()) {
         Ok(Some(name)) => name,
         _ => return Err("no pool")?,
     };
     let mut tx = Tx::begin(new_state(alloc)?);
-    assert!(&rt; writes_pair(alloc, &mut tx, &pool).is_ok());
-    assert_eq!(&rt; tx.book().pair_count(), 1);
-    assert!(&rt; tx.book().pair_at(0).is_some());
-    assert!(&rt; tx.book().any_locked());
+    let done = writes_pair(alloc, &mut tx, &pool).is_ok();
+    let shown = shows_pair(tx.book());
     let state = tx.rollback();
-    assert_eq!(&rt; state.book().pair_count(), 0);
+    assert!(&rt; done && shown && is_opening(state.book(), &asset));
     Ok(())
 }
 
@@ -176,7 +192,6 @@ fn marks_a_fault(rt: HostRuntime) -> Result<(), Fail> {
     tx.lack();
     let lacking = tx.mark();
     let _state = tx.rollback();
-    assert!(&rt; refused == Mark::Refused(Refusal::Funds));
-    assert!(&rt; lacking == Mark::NoMemory);
+    assert!(&rt; refused == Mark::Refused(Refusal::Funds) && lacking == Mark::NoMemory);
     Ok(())
 }

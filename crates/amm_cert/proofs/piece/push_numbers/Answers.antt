@@ -1,4 +1,4 @@
-use Rattle.std.proofs.Common.{◌≡◌, map, append_assoc, refl}
+use Rattle.std.proofs.Common.{map, append_assoc, refl}
 use Rattle.amm_model.specs.Json.{whole}
 use Rattle.amm_cert.proofs.Joined.{list_text}
 use Rattle.amm_cert.proofs.piece.push_numbers.Goals as goal

@@ -1,4 +1,4 @@
-use Rattle.std.proofs.Common.{◌≡◌, ◌<◌, ◌^◌, append_assoc, refl, arith}
+use Rattle.std.proofs.Common.{◌<◌, ◌^◌, append_assoc, refl, arith}
 use Rattle.amm_model.proofs.Escapes.{escape-decimal}
 use Rattle.amm_cert.proofs.piece.push_wide.Goals as goal
 

@@ -1,4 +1,4 @@
-use Rattle.std.proofs.Common.{◌≡◌, refl}
+use Rattle.std.proofs.Common.{refl}
 use Rattle.amm_model.specs.Json.{whole}
 use Rattle.amm_cert.proofs.Joined.{joined_more_of}
 use Rattle.amm_cert.proofs.piece.put_numbers.Goals as goal

@@ -1,4 +1,3 @@
-use Rattle.std.proofs.Common.{◌≡◌, rules}
 use Rattle.amm_model.proofs.Escapes.{escape-pool}
 use Rattle.amm_cert.proofs.piece.put_pool.Goals as goal
 

@@ -1,4 +1,3 @@
-use Rattle.std.proofs.Common.{◌≡◌, rules}
 use Rattle.amm_model.proofs.Escapes.{escape-token}
 use Rattle.amm_cert.proofs.piece.put_token.Goals as goal
 

@@ -1,4 +1,4 @@
-use Rattle.std.proofs.Common.{◌≡◌, map, append_assoc, refl}
+use Rattle.std.proofs.Common.{map, append_assoc, refl}
 use Rattle.std.specs.List.{zip}
 use Rattle.amm_model.specs.Certificate.{price_value}
 use Rattle.amm_cert.proofs.Joined.{list_text}

@@ -1,13 +1,12 @@
 use Rattle.std.proofs.Common.{◌≡◌, ℕ, List, [], ◌∷◌, ◌++◌, map, refl, sym, ap, ap₂, ◌∙◌, append_assoc, arith}
 use Rattle.std.proofs.lemmas.Fmt.{decimal_digit}
 use Rattle.std.specs.Prelude.{codes}
-use Rattle.std.specs.List.{zip}
 use Rattle.serde_json.specs.Data.{Data, string}
 use Rattle.serde_json.specs.Written.{compact_text}
 use Rattle.json.specs.Print.{escape_byte}
 use Rattle.amm_model.specs.declared.route.Quote.{Quote}
 use Rattle.amm_model.specs.Json.{whole, wide, list}
-use Rattle.amm_model.specs.Certificate.{pool_value, price_value, leg_value, prices_value, legs_value}
+use Rattle.amm_model.specs.Certificate.{pool_value, leg_value, prices_value, legs_value}
 use Rattle.amm_cert.specs.Texts.{next_text, values_text}
 use Rattle.amm_cert.proofs.Joined.{one_more, closed}
 use Rattle.amm_cert.proofs.writer.put_certificate.Goals as goal

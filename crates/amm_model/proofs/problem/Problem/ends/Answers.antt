@@ -1,4 +1,4 @@
-use Rattle.std.proofs.Common.{◌≡◌, ◌<◌, ◌≤◌, length, subst}
+use Rattle.std.proofs.Common.{◌<◌, ◌≤◌, length, subst}
 use Rattle.amm_model.specs.Routing.{ProblemView}
 use Rattle.amm_model.proofs.Problems.{source_there, target_there, tokens_few}
 use Rattle.amm_model.proofs.problem.Problem.ends.Goals as goal

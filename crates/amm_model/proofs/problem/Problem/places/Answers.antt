@@ -1,4 +1,4 @@
-use Rattle.std.proofs.Common.{◌≡◌, ◌<◌, ◌≤◌, length, subst}
+use Rattle.std.proofs.Common.{◌<◌, ◌≤◌, length, subst}
 use Rattle.std.specs.Prelude.{All}
 use Rattle.amm_model.specs.declared.problem.TokenPlaces.{TokenPlaces}
 use Rattle.amm_model.specs.Routing.{ProblemView}
