@@ -38,7 +38,7 @@ side_of ledger from to fee = do
   pair ← if_there (pair_of ledger.pairs pool)
   Ok (seen_from pool (is_before from to) pair)
 
--- the trade that an input makes with the pool of two tokens (library, getAmountOut)
+-- the trade that an input makes with the pool of two tokens (library, one round of getAmountsOut)
 unfoldable pub trade_out : Ledger → (from to : List ℕ) → (fee : ℕ) → ℕ → Result Trade Refusal
 trade_out ledger from to fee x = do
   side ← side_of ledger from to fee
@@ -59,7 +59,7 @@ pub record Plan : Type 0 where
   pub input : ℕ
   pub trades : List Trade
 
--- what the pool of two tokens asks for an output, and the trade (library, getAmountIn)
+-- what the pool of two tokens asks for an output, and the trade (library, one round of getAmountsIn)
 unfoldable pub trade_in : Ledger → (from to : List ℕ) → (fee : ℕ) → ℕ → Result (ℕ × Trade) Refusal
 trade_in ledger from to fee y = do
   side ← side_of ledger from to fee
@@ -76,15 +76,17 @@ plan_in ledger from (to ∷ tokens) (fee ∷ fees) y = do
   Ok (record { input = asked.0; trades = asked.1 ∷ later.trades })
 plan_in ledger from _ _ y = Ok (record { input = y; trades = [] })
 
+-- the same, where the path's first token is still among its tokens
 abbrev pub out_from_first : Ledger → List (List ℕ) → List ℕ → ℕ → Result (List Trade) Refusal
 out_from_first ledger [] fees x = Ok []
 out_from_first ledger (from ∷ tokens) fees x = trades_out ledger from tokens fees x
 
+-- the same for an output
 abbrev pub in_from_first : Ledger → List (List ℕ) → List ℕ → ℕ → Result Plan Refusal
 in_from_first ledger [] fees y = Ok (record { input = y; trades = [] })
 in_from_first ledger (from ∷ tokens) fees y = plan_in ledger from tokens fees y
 
--- what an input leads to along a path
+-- what an input leads to along a path: itself, and the trades
 unfoldable pub out_along : Ledger → RoutePath → ℕ → Result Plan Refusal
 out_along ledger path x = do
   trades ← out_from_first ledger path.tokens path.fees x
@@ -115,6 +117,7 @@ amounts_in ledger path y = do
 
 -- ---- swaps along a path
 
+-- the token that goes into the pool
 abbrev pub asset_in : Trade → Asset
 asset_in trade = if trade.zero_in then asset0 trade.pool else asset1 trade.pool
 
@@ -170,13 +173,13 @@ with_pool ledger a b fee = do
   pool ← ok_or (pool_between a b fee) code.Identical
   if is_some (pair_of ledger.pairs pool) then Ok (record { ledger = ledger; answer = pool }) else create ledger a b fee
 
--- where the desired amount of b is enough for that of a
+-- where the desired amount of b is enough: all that is desired of a, and the b that matches it
 abbrev pub match_b : AddWant → (b : ℕ) → Result Matched Refusal
 match_b want b = do
   _ ← refuse_if (nat_lt b want.b_min) code.InsufficientBAmount
   Ok (record { a = want.a_desired; b = b })
 
--- where it is not
+-- where it is not: all that is desired of b, and what matches it of a
 abbrev pub match_a : AddWant → (ra rb : ℕ) → Result Matched Refusal
 match_a want ra rb = do
   _ ← refuse_if (want.b_desired == 0) code.InsufficientAmount

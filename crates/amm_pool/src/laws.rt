@@ -1,7 +1,15 @@
 //! What the formulas keep, as laws over all numbers. The functions do nothing.
-ghost use Rattle.std.specs.Prelude.{ℕ, ◌+◌, ◌-◌, ◌*◌, ◌/◌, ◌≤◌};
+ghost use Rattle.std.specs.Prelude.{ℕ, ◌≡◌, ◌+◌, ◌-◌, ◌*◌, ◌/◌, ◌≤◌};
+ghost use Rattle.amm_model.specs.Root.{IsRoot, root_of};
 ghost use Rattle.amm_model.specs.Swap.{Admits};
 ghost use Rattle.amm_model.specs.Formulas.{IsBacked, fee_shares_of, later_shares_of};
+
+/// The root that the formulas speak of is the one number that its rule names: its square is at
+/// most the number, and the next square is above it.
+pub fn root_meets_its_rule()
+    ensures holds { (n : ℕ) → IsRoot n (root_of n) }
+    ensures only { (n r : ℕ) → IsRoot n r → r ≡ root_of n }
+{}
 
 /// What the rule of a swap admits keeps the product of the reserves, at any fee.
 pub fn swap_keeps_product()

@@ -13,6 +13,7 @@ use std::time::Instant;
 use std::{env, io};
 
 const ROOTS: u32 = 1_000_000;
+
 const BOUNDS: u32 = 2_000;
 
 // The next number of a xorshift generator.
