@@ -11,10 +11,7 @@ pub enum Request {
     Run,
     Check,
     /// A seed, and how many lines, from 1 to 100000.
-    Work {
-        seed: u64,
-        count: u32,
-    },
+    Work { seed: u64, count: u32 },
 }
 
 const LARGEST_COUNT: u64 = 100000;
