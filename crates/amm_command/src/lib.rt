@@ -8,5 +8,7 @@ mod path;
 mod row;
 mod step;
 mod step_row;
+#[cfg(test)]
+mod tests;
 
 pub use line::read_line;

@@ -7,12 +7,16 @@
 
 ghost use Rattle.std.specs.Prelude.{◌≡◌, OnOk};
 ghost use Rattle.amm_model.specs.Factory.{create, set_fee_to, set_setter};
+ghost use Rattle.amm_model.specs.Pools.{same_name};
 ghost use Rattle.amm_model.specs.Sound.{IsSound};
 ghost use Rattle.amm_model.specs.Swap.{IsFee};
 ghost use Rattle.amm_state.specs.Tx.{Meets};
 
+#[cfg(test)]
+mod tests;
+
 use amm_model::{Fault, Holder, PoolName, Refusal, TokenName, UserName};
-use amm_state::{Mark, Tx};
+use amm_state::{Book, Mark, Tx};
 use std::alloc::Global;
 
 /// Creates the pair of two tokens, in either order, at a fee of 1, 3 or 10 thousandths.
@@ -65,6 +69,13 @@ fn create_at(
     Ok(pool)
 }
 
+// Whether the user may change the settings.
+fn is_setter(book: &Book, user: &UserName) -> bool
+    ensures { result ≡ same_name user.now book.now.ledger.setter }
+{
+    user == book.setter()
+}
+
 /// Sets who gets the protocol's fee. FORBIDDEN exactly where the actor is not the setter.
 pub fn set_fee_to(alloc: Global, tx: &mut Tx, actor: &UserName, to: &Holder) -> Result<(), Fault>
     requires clean { tx.old.mark ≡ Mark.Clean }
@@ -81,7 +92,7 @@ fn set_fee_to_at(alloc: Global, tx: &mut Tx, actor: &UserName, to: &Holder) -> R
     requires { tx.old.mark ≡ Mark.Clean }
     ensures { Meets tx.old tx.new result (set_fee_to tx.old.present actor.now to.now) }
 {
-    if actor != tx.book().setter() {
+    if !is_setter(tx.book(), actor) {
         return Err(tx.refuse(Refusal::Forbidden));
     }
     tx.set_fee_to(alloc, to)
@@ -103,7 +114,7 @@ fn set_setter_at(alloc: Global, tx: &mut Tx, actor: &UserName, to: &UserName) ->
     requires { tx.old.mark ≡ Mark.Clean }
     ensures { Meets tx.old tx.new result (set_setter tx.old.present actor.now to.now) }
 {
-    if actor != tx.book().setter() {
+    if !is_setter(tx.book(), actor) {
         return Err(tx.refuse(Refusal::Forbidden));
     }
     tx.set_setter(alloc, to)

@@ -1,8 +1,13 @@
 -- A leg-by-leg route is, leg for trade, a route that delivers the same.
-use Rattle.std.proofs.Common.{◌≡◌, ◌≢◌, ℕ, ◌+◌, ◌-◌, ◌*◌, ◌<◌, ◌≤◌, Bool, true, false, cond, List, [], ◌∷◌, length, map, arith, zero, suc, subst, ap, sym, refl, get_or, ◌∙◌, ◌^◌}
-use Rattle.std.specs.Prelude.{AllPairs, All, sum_by}
-use Rattle.std.proofs.Math.ListN.{replicate, length-replicate}
-use Rattle.std.proofs.lemmas.List.{get_or-replicate}
+use Rattle.std.proofs.Common.{◌≡◌, ◌≢◌, ℕ, ◌+◌, ◌-◌, ◌*◌, ◌<◌, ◌≤◌, Bool, true, false, cond, nat_eq, List, [], ◌∷◌, length, map, arith, zero, suc, subst, ap, sym, refl, get_or, ◌∙◌, ◌^◌}
+use Rattle.std.specs.Prelude.{AllPairs, All, Contains, sum_by}
+use Rattle.std.proofs.Math.ListN.{replicate, length-map, length-replicate}
+use Rattle.std.proofs.lemmas.List.{get_or-map, get_or-replicate}
+use Rattle.std.proofs.lemmas.Bool.Decides.{nat_tests}
+use Rattle.std.proofs.lemmas.Map.Keys.{IsDistinct-from_apart}
+use Rattle.std.proofs.lemmas.Bool.{eqb-true}
+use Rattle.std.proofs.lemmas.Map.Views.{Contains-from_any}
+use Rattle.std.proofs.lemmas.Map.Steps.{length-le_from_distinct_below}
 use Rattle.std.proofs.lemmas.List.Folds.{sum_by-replicate}
 use Rattle.amm_model.proofs.Sums.{once_places, sum_by-le_each, sum_of_places-le}
 use Rattle.std.specs.List.{AllByRecursion}
@@ -123,6 +128,32 @@ legs_apart pools used held (leg ∷ legs) legal =
     (subst (λ (n : ℕ). AllByRecursion (λ (t : Trade). n ≢ t.place) (map trade_of legs)) (sym (place_of_trade leg))
     (apart_from_used pools (leg.pool ∷ used) (after_leg pools held leg) legs 0 (omega arith) legal.1))
     (legs_apart pools (leg.pool ∷ used) (after_leg pools held leg) legs legal.1)
+
+-- so there are no more legs than pools
+pub legs_few : (problem : ProblemView) (used : List ℕ) (held : Holdings) (legs : List Leg) → IsProblem problem → AreLegs problem.pools used held legs → length legs ≤ 256
+legs_few problem used held legs sound legal =
+    let apart = legs_apart problem.pools used held legs legal in
+    let places = map (λ (t : Trade). t.place) (map trade_of legs) in
+    let distinct = IsDistinct-from_apart nat_eq places (λ i j d ij below. differ _ _ (
+    let within : j < length (map trade_of legs) = rw length-map at below in
+    rw (get_or-map (λ (t : Trade). t.place) (map trade_of legs) i no_trade d (omega arith), get_or-map (λ (t : Trade). t.place) (map trade_of legs) j no_trade d within) (apart i j no_trade ij within))) in
+    let few : length places ≤ length problem.pools = length-le_from_distinct_below places (length problem.pools) distinct (λ q has. within q (Contains-from_any (λ x y e. eqb-true x y e) q places has)) in
+    let as_many : length places ≡ length (map trade_of legs) = length-map (map trade_of legs) (λ (t : Trade). t.place) in
+    let as_legs : length (map trade_of legs) ≡ length legs = length-map legs trade_of in
+    omega (arith, sound.parts.few)
+  where
+    no_trade : Trade
+    no_trade = record { place = 0; in0 = 0; in1 = 0; out0 = 0; out1 = 0 }
+
+    within : (q : ℕ) → Contains (map (λ (t : Trade). t.place) (map trade_of legs)) q → q < length problem.pools
+    within q (k, below, is) =
+        let inside : k < length (map trade_of legs) = rw length-map at below in
+        let trades = All-from_recursion (IsTrade problem.pools) (map trade_of legs) (legs_are_trades problem.pools used held legs sound.parts.reserves legal) in
+        let e : get_or (map (λ (t : Trade). t.place) (map trade_of legs)) k q ≡ (get_or (map trade_of legs) k no_trade).place = get_or-map (λ (t : Trade). t.place) (map trade_of legs) k no_trade q inside in
+        omega (arith, is, e, (trades k no_trade inside).there)
+
+    differ : (a b : ℕ) → a ≢ b → nat_eq a b ≡ false
+    differ a b apart = grind (arith, nat_tests)
 
 start_is : (problem : ProblemView) → starting_with problem problem.s ≡ problem.d
 start_is problem = ap (λ (b : Bool). cond b problem.d 0) ((bytes_eq-Decides problem.s problem.s).1 refl)

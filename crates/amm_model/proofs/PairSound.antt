@@ -1,6 +1,6 @@
 -- A new pair with nothing in it keeps a ledger sound and at rest.
 use Rattle.std.proofs.Common.{◌≡◌, ◌<◌, ◌++◌, ◌∷◌, [], ℕ, ◌==◌, nat_le, Bool, true, false, cond, ◌||◌, List, length, Option, Some, None, Ok, IsSome, ◌⊎◌, inl, inr, refl, sym, ap, ◌∙◌, subst, arith, length-append}
-use Rattle.std.specs.Map.{keys_of}
+use Rattle.std.specs.Map.{keys_of, values_of}
 use Rattle.std.specs.List.{IsDistinct, list_any}
 use Rattle.std.specs.Cmp.Lexicographic.{nat_list_eq_equiv}
 use Rattle.std.proofs.lemmas.Map.Keys.{IsDistinct-push}
@@ -144,3 +144,15 @@ module _ (old : Ledger) (pool : List ℕ) (made : Made (Unit {0})) (is : add_pai
         | inr new ↦ ap (λ (p : PairRecord). p.locked) new.1
       ];
     }
+
+-- where no pair of the list is locked, none is that is found in it
+pub none_locked : (pairs : Pairs) → list_any (λ pair. pair.locked) (values_of pairs) ≡ false → (pool : List ℕ) (pair : PairRecord) → pair_of pairs pool ≡ Some pair → pair.locked ≡ false
+none_locked [] free pool pair is = cc
+none_locked (e ∷ pairs) free pool pair is =
+    elim (e.1.locked) as (λ b. e.1.locked ≡ b → (b || list_any (λ p. p.locked) (values_of pairs)) ≡ false → pair.locked ≡ false) [
+      | true ↦ λ here all. cc
+      | false ↦ λ here all. elim (same_name pool e.0) as (λ b. cond b (Some e.1) (pair_of pairs pool) ≡ Some pair → pair.locked ≡ false) [
+        | true ↦ λ found. ap (λ (p : PairRecord). p.locked) (let same : pair ≡ e.1 = cc in same) ∙ here
+        | false ↦ λ found. none_locked pairs all pool pair found
+      ] is
+    ] refl free

@@ -1,5 +1,5 @@
 -- Names in order, and what follows for the tokens of a problem.
-use Rattle.std.proofs.Common.{◌≡◌, ◌≢◌, ◌⊎◌, ℕ, ◌+◌, ◌-◌, ◌<◌, ◌≤◌, inl, inr, zero, suc, Bool, true, false, cond, ◌&&◌, List, [], ◌∷◌, ◌++◌, length, take, get_or, map, arith, refl, sym, ap, subst, ◌∙◌}
+use Rattle.std.proofs.Common.{◌≡◌, ◌≢◌, ◌⊎◌, ℕ, ◌+◌, ◌-◌, ◌*◌, ◌<◌, ◌≤◌, inl, inr, zero, suc, Bool, true, false, cond, ◌&&◌, List, [], ◌∷◌, ◌++◌, length, take, get_or, map, arith, refl, sym, ap, subst, ◌∙◌}
 use Rattle.std.specs.Prelude.{◌↔◌, ◌==◌, codes, AllPairs, All, Contains, IsTrue}
 use Rattle.std.specs.declared.cmp.Ordering.{Ordering}
 use Rattle.std.specs.declared.cmp.Ordering.TheVariants.{Less, Equal, Greater}
@@ -13,6 +13,8 @@ use Rattle.std.proofs.lemmas.List.Kept.{AllPairs-cons, Contains-dedup, Contains-
 use Rattle.std.proofs.lemmas.List.Sorted.{Contains-permutation, IsPermutation-sym}
 use Rattle.std.proofs.lemmas.List.Sums.{fails_before_first}
 use Rattle.std.proofs.lemmas.Bool.{cases_lt}
+use Rattle.std.proofs.lemmas.Map.Keys.{IsDistinct-from_apart}
+use Rattle.std.proofs.lemmas.Map.Made.{is_member-Decides, length-le_from_is_member}
 use Rattle.std.proofs.lemmas.List.{get_or-map}
 use Rattle.std.proofs.Math.ListN.{length-map}
 use Rattle.std.proofs.lemmas.Slice.Eq.{bytes_eq-Decides}
@@ -20,7 +22,7 @@ use Rattle.amm_model.specs.declared.problem.TokenPlaces.{TokenPlaces}
 use Rattle.amm_model.specs.declared.problem.ProblemPool.{ProblemPool}
 use Rattle.amm_names.specs.Pools.{is_pool_name, fee_of_digits, pool_fee}
 use Rattle.amm_model.specs.Swap.{IsFee}
-use Rattle.amm_model.specs.Routing.{Name, ProblemView, IsProblem, IsBefore, fee_of, token0_of, token1_of, tokens_of_pools, tokens_named, token_place, places_of, no_pool}
+use Rattle.amm_model.specs.Routing.{Name, ProblemView, IsProblem, IsProblemOf, IsBefore, fee_of, token0_of, token1_of, tokens_of_pools, tokens_named, token_place, places_of, no_pool}
 
 pub before-less : (a b : Name) → IsBefore a b → slice_cmp nat_cmp a b ≡ Less
 before-less a b before = pick (slice_cmp nat_cmp a b) before
@@ -148,6 +150,26 @@ places_there problem sound k d below =
     let is = get_or-map (places_of problem.tokens) problem.pools k no_pool d inside in
     rw is (tokens_there problem sound k no_pool inside)
 
+-- two tokens, and at most two for each of at most 256 pools
+pub tokens_few : (problem : ProblemView) → IsProblem problem → length problem.tokens ≤ 514
+tokens_few problem sound = omega (arith, within, named problem.pools, sound.parts.few)
+  where
+    named : (pools : List ProblemPool) → length (tokens_of_pools pools) ≡ 2 * length pools
+    named [] = refl
+    named (pool ∷ pools) = omega (arith, named pools)
+
+    differ : (a b : Name) → a ≢ b → bytes_eq a b ≡ false
+    differ a b apart = pick (bytes_eq a b) (bytes_eq-Decides a b).0
+      where
+        pick : (c : Bool) → (c ≡ true → a ≡ b) → c ≡ false
+        pick true says = absurd (apart (says refl))
+        pick false says = refl
+
+    within : length problem.tokens ≤ length (tokens_named problem)
+    within = length-le_from_is_member nat_list_eq_equiv problem.tokens (tokens_named problem)
+        (IsDistinct-from_apart bytes_eq problem.tokens (λ i j d ij below. differ _ _ (once_tokens problem sound i j d ij below)))
+        (λ q has. (is_member-Decides bytes_eq-Decides (tokens_named problem) q).1 ((sound.tokens q).0 ((is_member-Decides bytes_eq-Decides problem.tokens q).0 has)))
+
 -- every fee that a name spells is one of the three
 digits_fee : (digits : List ℕ) → IsFee (fee_of_digits digits)
 digits_fee digits = pick (bytes_eq digits (codes "1")) (bytes_eq digits (codes "10"))
@@ -172,3 +194,73 @@ tokens_differ pools spelled k d below = before-apart _ _ (third _ _ _ _ (spelled
     third true true false e h = cc
     third true false c e h = cc
     third false b c e h = cc
+
+-- ---- the parts of a problem determine it
+
+-- what a list that ascends has is its first name, or is later
+first_or_later : (z y : Name) (ys : List Name) → AllPairs IsBefore (y ∷ ys) → Contains (y ∷ ys) z → (y ≡ z) ⊎ (IsBefore y z × Contains ys z)
+first_or_later z y ys up (zero, below, is) = inl is
+first_or_later z y ys up (suc k, below, is) = inr (subst (λ (n : Name). IsBefore y n) is (up 0 (suc k) z (omega arith) (omega arith)), (k, omega arith, is))
+
+tail-pairs : (y : Name) (ys : List Name) → AllPairs IsBefore (y ∷ ys) → AllPairs IsBefore ys
+tail-pairs y ys up i j d ij below = up (suc i) (suc j) d (omega arith) (omega arith)
+
+tail-has : (x y : Name) (xs ys : List Name) → AllPairs IsBefore (x ∷ xs) → AllPairs IsBefore (y ∷ ys) → x ≡ y →
+    ((z : Name) → Contains (x ∷ xs) z → Contains (y ∷ ys) z) → (z : Name) → Contains xs z → Contains ys z
+tail-has x y xs ys up down first has z (k, below, is) = pick (first_or_later z y ys down (has z (suc k, omega arith, is)))
+  where
+    later : IsBefore x z
+    later = subst (λ (n : Name). IsBefore x n) is (up 0 (suc k) z (omega arith) (omega arith))
+
+    pick : (y ≡ z) ⊎ (IsBefore y z × Contains ys z) → Contains ys z
+    pick (inl e) = absurd (before-apart x z later (first ∙ e))
+    pick (inr there) = there.1
+
+none : (x : Name) → Contains [] x → ⊥
+none x (k, below, is) = omega arith
+
+-- lists that ascend and have the same names are one list
+ascending-same : (xs ys : List Name) → AllPairs IsBefore xs → AllPairs IsBefore ys → ((z : Name) → Contains xs z ↔ Contains ys z) → xs ≡ ys
+ascending-same [] [] up down same = refl
+ascending-same [] (y ∷ ys) up down same = absurd (none y ((same y).1 (0, omega arith, refl)))
+ascending-same (x ∷ xs) [] up down same = absurd (none x ((same x).0 (0, omega arith, refl)))
+ascending-same (x ∷ xs) (y ∷ ys) up down same =
+    let first : x ≡ y = pick (first_or_later x y ys down ((same x).0 (0, omega arith, refl))) (first_or_later y x xs up ((same y).1 (0, omega arith, refl))) in
+    let rest : xs ≡ ys = ascending-same xs ys (tail-pairs x xs up) (tail-pairs y ys down)
+    (λ z. (tail-has x y xs ys up down first (λ w. (same w).0) z, tail-has y x ys xs down up (sym first) (λ w. (same w).1) z)) in
+    ap (λ (n : Name). n ∷ xs) first ∙ ap (λ (l : List Name). y ∷ l) rest
+  where
+    pick : (y ≡ x) ⊎ (IsBefore y x × Contains ys x) → (x ≡ y) ⊎ (IsBefore x y × Contains xs y) → x ≡ y
+    pick (inl e) other = sym e
+    pick (inr less) (inl e) = e
+    pick (inr less) (inr more) = absurd (before-apart x x (before-trans x y x more.0 less.0) refl)
+
+same_problem : (p q : ProblemView) → p.s ≡ q.s → p.t ≡ q.t → p.d ≡ q.d → p.tokens ≡ q.tokens → p.pools ≡ q.pools → p ≡ q
+same_problem p q s t d tokens pools =
+    ap (λ (n : Name). record { s = n; t = p.t; d = p.d; tokens = p.tokens; pools = p.pools }) s
+    ∙ ap (λ (n : Name). record { s = q.s; t = n; d = p.d; tokens = p.tokens; pools = p.pools }) t
+    ∙ ap (λ (n : ℕ). record { s = q.s; t = q.t; d = n; tokens = p.tokens; pools = p.pools }) d
+    ∙ ap (λ (n : List Name). record { s = q.s; t = q.t; d = q.d; tokens = n; pools = p.pools }) tokens
+    ∙ ap (λ (n : List ProblemPool). record { s = q.s; t = q.t; d = q.d; tokens = q.tokens; pools = n }) pools
+
+pub one_problem : (s t : Name) (d : ℕ) (pools : List ProblemPool) (p q : ProblemView) → IsProblemOf s t d pools p → IsProblemOf s t d pools q → p ≡ q
+one_problem s t d pools p q of_p of_q =
+    same_problem p q source target (of_p.amount ∙ sym of_q.amount) (ascending-same p.tokens q.tokens of_p.sound.ascending of_q.sound.ascending same) over
+  where
+    source : p.s ≡ q.s
+    source = of_p.source ∙ sym of_q.source
+
+    target : p.t ≡ q.t
+    target = of_p.target ∙ sym of_q.target
+
+    over : p.pools ≡ q.pools
+    over = of_p.over ∙ sym of_q.over
+
+    named : tokens_named p ≡ tokens_named q
+    named = ap (λ (n : Name). n ∷ p.t ∷ tokens_of_pools p.pools) source ∙ ap (λ (n : Name). q.s ∷ n ∷ tokens_of_pools p.pools) target ∙ ap (λ (l : List ProblemPool). q.s ∷ q.t ∷ tokens_of_pools l) over
+
+    same : (z : Name) → Contains p.tokens z ↔ Contains q.tokens z
+    same z = (
+      λ has. (of_q.sound.tokens z).1 (subst (λ (l : List Name). Contains l z) named ((of_p.sound.tokens z).0 has)),
+      λ has. (of_p.sound.tokens z).1 (subst (λ (l : List Name). Contains l z) (sym named) ((of_q.sound.tokens z).0 has)),
+    )

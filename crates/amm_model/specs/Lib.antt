@@ -21,3 +21,7 @@ pub mod Bound
 pub mod Legs
 pub mod Answers
 pub mod Later
+pub mod ReplyText
+pub mod Certificate
+pub mod Fits
+pub mod Router

@@ -10,12 +10,13 @@ use Rattle.amm_model.specs.declared.fault.Refusal.TheVariants as code
 use Rattle.amm_model.specs.declared.reply.Answer.{Answer}
 use Rattle.amm_model.specs.declared.reply.Answer.TheVariants as answers
 use Rattle.amm_model.specs.Outcome.{◌>>=◌, refuse_if}
-use Rattle.amm_model.specs.Ledger.{Ledger, Outcome, balance, total, list, issue, retire, transfer, set_time, is_listed, pair_of}
+use Rattle.amm_model.specs.Ledger.{Ledger, Outcome, done, balance, total, list, issue, retire, transfer, set_time, is_listed, pair_of}
 use Rattle.amm_model.specs.Pools.{held0, held1, supply}
-use Rattle.amm_model.specs.Operations.{mint, burn, swap, skim, sync}
+use Rattle.amm_model.specs.Operations.{mint, burn, swap, skim, sync, lend, give_back}
 use Rattle.amm_model.specs.Factory.{create, set_fee_to, set_setter}
+use Rattle.amm_model.specs.Router.{add, remove, exact_in, exact_out, amounts_out, amounts_in}
 use Rattle.amm_model.specs.CommandView as view
-use Rattle.amm_model.specs.CommandView.{CommandView, Move}
+use Rattle.amm_model.specs.CommandView.{CommandView, Move, Moves}
 
 -- the ledger as it is, with an answer
 abbrev pub told : Ledger → Answer → Outcome Answer
@@ -52,16 +53,33 @@ as_answer view outcome = do
   made ← outcome
   told made.ledger (view made.answer)
 
--- what a step of the actor does; a kind that is not answered yet is refused
-unfoldable pub meaning : Ledger → (actor : List ℕ) → Move → Outcome Answer
-meaning ledger actor (view.transfer asset to n) = send ledger actor asset to n
-meaning ledger actor (view.create a b fee) = as_answer answers.Create (create ledger a b fee)
-meaning ledger actor (view.mint pool to) = as_answer answers.Mint (mint ledger pool to)
-meaning ledger actor (view.burn pool to) = as_answer answers.Burn (burn ledger pool to)
-meaning ledger actor (view.swap pool out0 out1 to) = as_answer answers.Swap (swap ledger pool out0 out1 to)
-meaning ledger actor (view.skim pool to) = as_answer answers.Skim (skim ledger pool to)
-meaning ledger actor (view.sync pool) = synced ledger pool
-meaning ledger actor _ = Err code.BadCommand
+unfoldable mutual
+  -- What a step of the actor does. A loan is lent to the actor, whose steps run, and is then given back (core, UniswapV2Pair.swap with data).
+  -- A kind that is not answered yet is refused.
+  pub meaning : Ledger → (actor : List ℕ) → Move → Outcome Answer
+  meaning ledger actor (view.transfer asset to n) = send ledger actor asset to n
+  meaning ledger actor (view.create a b fee) = as_answer answers.Create (create ledger a b fee)
+  meaning ledger actor (view.mint pool to) = as_answer answers.Mint (mint ledger pool to)
+  meaning ledger actor (view.burn pool to) = as_answer answers.Burn (burn ledger pool to)
+  meaning ledger actor (view.swap pool out0 out1 to) = as_answer answers.Swap (swap ledger pool out0 out1 to)
+  meaning ledger actor (view.skim pool to) = as_answer answers.Skim (skim ledger pool to)
+  meaning ledger actor (view.sync pool) = synced ledger pool
+  meaning ledger actor (view.flash pool out0 out1 steps) = do
+    lent ← lend ledger pool out0 out1 (holders.User actor)
+    ran ← meaning_of_all lent.ledger actor steps
+    as_answer answers.Flash (give_back ran.ledger pool out0 out1)
+  meaning ledger actor (view.add want to deadline) = as_answer answers.Add (add ledger actor want to deadline)
+  meaning ledger actor (view.remove want to deadline) = as_answer answers.Remove (remove ledger actor want to deadline)
+  meaning ledger actor (view.swap_in path x least to deadline) = as_answer answers.SwapIn (exact_in ledger actor path x least to deadline)
+  meaning ledger actor (view.swap_out path y most to deadline) = as_answer answers.SwapOut (exact_out ledger actor path y most to deadline)
+  meaning ledger actor (view.settle quote deadline) = Err code.BadCommand
+
+  -- what a list of steps does, one after another; the first code ends it
+  pub meaning_of_all : Ledger → (actor : List ℕ) → Moves → Outcome (Unit {0})
+  meaning_of_all ledger actor view.no_moves = done ledger
+  meaning_of_all ledger actor (view.move step steps) = do
+    made ← meaning ledger actor step
+    meaning_of_all made.ledger actor steps
 
 -- ---- commands that are no steps
 
@@ -86,6 +104,12 @@ outcome_of ledger (view.withdraw user token n) = withdraw ledger user token n
 outcome_of ledger (view.time n) = answering answers.Time (set_time ledger n)
 outcome_of ledger (view.fee_to actor to) = answering answers.FeeTo (set_fee_to ledger actor to)
 outcome_of ledger (view.setter actor to) = answering answers.Setter (set_setter ledger actor to)
+outcome_of ledger (view.quote_out path n) = do
+  amounts ← amounts_out ledger path n
+  told ledger (answers.QuoteOut amounts)
+outcome_of ledger (view.quote_in path n) = do
+  amounts ← amounts_in ledger path n
+  told ledger (answers.QuoteIn amounts)
 outcome_of ledger (view.pool pool) = do
   pair ← ok_or (pair_of ledger.pairs pool) code.NoPair
   told ledger (answers.Pool pair (held0 ledger pool) (held1 ledger pool) (supply ledger pool))

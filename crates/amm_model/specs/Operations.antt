@@ -1,4 +1,4 @@
--- What the operations of a pair do to the ledger.
+-- What the operations of a pair do to the ledger (Uniswap v2 core, UniswapV2Pair).
 use Rattle.std.specs.Prelude.{◌≡◌, ℕ, ◌+◌, ◌-◌, ◌*◌, ◌/◌, ◌==◌, ◌<◌, ◌≤◌, Bool, true, false, not, ◌&&◌, ◌||◌, nat_lt, nat_le, List, Option, Some, None, Result, Ok, Err, if◌then◌else◌}
 use Rattle.amm_names.specs.declared.holder.Holder.{Holder}
 use Rattle.amm_names.specs.declared.holder.Holder.TheVariants as holder
@@ -23,27 +23,33 @@ abbrev pub if_there : Option PairRecord → Result PairRecord Refusal
 if_there None = Err code.NoPair
 if_there (Some pair) = Ok pair
 
--- the pair, if it is not locked
+-- the pair of a pool, if it has one that is not locked (core, the modifier lock)
 abbrev pub if_free : Option PairRecord → Result PairRecord Refusal
 if_free None = Err code.NoPair
 if_free (Some pair) = if pair.locked then Err code.Locked else Ok pair
 
+-- the pair that an operation begins with
 abbrev pub free_pair : Ledger → List ℕ → Result PairRecord Refusal
 free_pair ledger pool = if_free (pair_of ledger.pairs pool)
 
 -- ---- update
 
--- the record with these reserves, after the accumulators have grown
+-- the record with these reserves, after the accumulators have grown (whitepaper 2.2)
 abbrev pub renewed : PairRecord → (time b0 b1 : ℕ) → PairRecord
 renewed pair time b0 b1 = record (accumulated pair time) { r0 = b0; r1 = b1 }
 
--- the pair's record with what the pool has as its reserves
-unfoldable pub updated : Ledger → List ℕ → PairRecord → Result PairRecord Refusal
-updated ledger pool pair =
-    if nat_lt reserve_limit (held0 ledger pool) then Err code.Overflow
-    else (if nat_lt reserve_limit (held1 ledger pool) then Err code.Overflow
-    else Ok (renewed pair ledger.time (held0 ledger pool) (held1 ledger pool)))
+-- the record with these balances as its reserves, if both are within the limit of a reserve (core, _update)
+unfoldable pub updated_to : PairRecord → (time b0 b1 : ℕ) → Result PairRecord Refusal
+updated_to pair time b0 b1 =
+    if nat_lt reserve_limit b0 then Err code.Overflow
+    else (if nat_lt reserve_limit b1 then Err code.Overflow
+    else Ok (renewed pair time b0 b1))
 
+-- the record with what the pool has as its reserves
+abbrev pub updated : Ledger → List ℕ → PairRecord → Result PairRecord Refusal
+updated ledger pool pair = updated_to pair ledger.time (held0 ledger pool) (held1 ledger pool)
+
+-- what the pool has becomes its reserves (core, sync)
 unfoldable pub sync : Ledger → List ℕ → Outcome (Unit {0})
 sync ledger pool = do
   pair ← free_pair ledger pool
@@ -54,6 +60,7 @@ sync ledger pool = do
 abbrev pub excess : Ledger → List ℕ → PairRecord → SkimReceipt
 excess ledger pool pair = record { sent0 = held0 ledger pool - pair.r0; sent1 = held1 ledger pool - pair.r1 }
 
+-- what the pool has above its reserves is sent, and its record stays (core, skim)
 unfoldable pub skim : Ledger → List ℕ → Holder → Outcome SkimReceipt
 skim ledger pool to = do
   pair ← free_pair ledger pool
@@ -63,6 +70,7 @@ skim ledger pool to = do
 
 -- ---- loans and swaps
 
+-- the record with its lock set, and with its lock free
 abbrev pub locked : PairRecord → PairRecord
 locked pair = record pair { locked = true }
 
@@ -74,7 +82,7 @@ abbrev pub is_token_of : List ℕ → Holder → Bool
 is_token_of pool (holder.Token name) = same_name name (pool_token0 pool) || same_name name (pool_token1 pool)
 is_token_of pool other = false
 
--- a loan of the pool, and the record that it keeps
+-- the first half of a swap: the outputs are tested, the pair is locked, and they are sent; the answer is the record that is kept meanwhile (core, swap)
 unfoldable pub lend : Ledger → List ℕ → (out0 out1 : ℕ) → Holder → Outcome PairRecord
 lend ledger pool out0 out1 to = do
   pair ← free_pair ledger pool
@@ -85,20 +93,24 @@ lend ledger pool out0 out1 to = do
   second ← transfer first.ledger (asset1 pool) (holder.Pool pool) to out1
   Ok (record { ledger = second.ledger; answer = locked pair })
 
--- the same, with the terms of the loan
+-- the same as a loan, which keeps its terms (core, swap with data; whitepaper 2.3)
 abbrev pub open_loan : Ledger → List ℕ → (out0 out1 : ℕ) → Holder → Outcome Terms
 open_loan ledger pool out0 out1 to = do
   lent ← lend ledger pool out0 out1 to
   Ok (record { ledger = lent.ledger; answer = record { pool = pool; out0 = out0; out1 = out1; pair = lent.answer } })
 
--- what has come in since the outputs went out
-abbrev pub came_in : Ledger → List ℕ → PairRecord → (out0 out1 : ℕ) → SwapReceipt
-came_in ledger pool pair out0 out1 = record { in0 = held0 ledger pool - (pair.r0 - out0); in1 = held1 ledger pool - (pair.r1 - out1); out0 = out0; out1 = out1 }
+-- what has come in since the outputs went out: 0 where the balance is less than the loan left (core, swap)
+abbrev pub came_to : PairRecord → (b0 b1 out0 out1 : ℕ) → SwapReceipt
+came_to pair b0 b1 out0 out1 = record { in0 = b0 - (pair.r0 - out0); in1 = b1 - (pair.r1 - out1); out0 = out0; out1 = out1 }
 
--- whether what the pool has keeps the product, at the pool's fee
+abbrev pub came_in : Ledger → List ℕ → PairRecord → (out0 out1 : ℕ) → SwapReceipt
+came_in ledger pool pair out0 out1 = came_to pair (held0 ledger pool) (held1 ledger pool) out0 out1
+
+-- whether what the pool has, less the pool's fee on what came in, keeps the product of the reserves (whitepaper 3.2.1)
 abbrev pub keeps_product : Ledger → List ℕ → PairRecord → SwapReceipt → Bool
 keeps_product ledger pool pair paid = admits (pool_fee pool) pair.r0 pair.r1 (held0 ledger pool) (held1 ledger pool) paid.in0 paid.in1
 
+-- the second half of a swap: what came in is tested, the reserves are what the pool has, and the pair is free (core, swap)
 unfoldable pub give_back : Ledger → List ℕ → (out0 out1 : ℕ) → Outcome SwapReceipt
 give_back ledger pool out0 out1 = do
   pair ← if_there (pair_of ledger.pairs pool)
@@ -107,6 +119,7 @@ give_back ledger pool out0 out1 = do
   new ← updated ledger pool pair
   Ok (record { ledger = with_pair ledger pool (unlocked new); answer = came_in ledger pool pair out0 out1 })
 
+-- both halves at once: the receiver has paid before (core, swap without data)
 unfoldable pub swap : Ledger → List ℕ → (out0 out1 : ℕ) → Holder → Outcome SwapReceipt
 swap ledger pool out0 out1 to = do
   lent ← lend ledger pool out0 out1 to
@@ -114,11 +127,12 @@ swap ledger pool out0 out1 to = do
 
 -- ---- the protocol's fee
 
+-- the zero holder as the fee's receiver: no fee is taken
 abbrev pub is_nobody : Holder → Bool
 is_nobody holder.Zero = true
 is_nobody other = false
 
--- the shares that the protocol gets before a mint or a burn
+-- the shares that the protocol gets before a mint or a burn (core, _mintFee; whitepaper 2.4)
 unfoldable pub fee_due : Ledger → List ℕ → PairRecord → ℕ
 fee_due ledger pool pair = if is_nobody ledger.fee_to then 0 else fee_shares_of (supply ledger pool) pair.r0 pair.r1 pair.k_last
 
@@ -136,13 +150,13 @@ with_product nobody pair = if nobody then pair else record pair { k_last = pair.
 
 -- ---- mint
 
--- the shares for what was brought, of a supply
+-- the shares for what was brought above the reserves: at first the root of the product of the amounts, less the first ones (whitepaper 3.4), and then in proportion to the supply
 unfoldable pub shares_for : Ledger → List ℕ → PairRecord → (supply : ℕ) → ℕ
 shares_for ledger pool pair supply =
     if supply == 0 then root_of ((held0 ledger pool - pair.r0) * (held1 ledger pool - pair.r1)) - first_locked
     else later_shares_of (held0 ledger pool - pair.r0) (held1 ledger pool - pair.r1) supply pair.r0 pair.r1
 
--- the ledger with n shares given, of a supply; the first lock some with the zero holder
+-- the ledger with n shares given; the first shares of all are given together with those that the zero holder keeps for ever (core, mint)
 unfoldable pub with_shares : Ledger → List ℕ → Holder → (supply n : ℕ) → Ledger
 with_shares ledger pool to supply n =
     if supply == 0 then added (added ledger (asset.Share pool) to n) (asset.Share pool) holder.Zero first_locked
@@ -152,15 +166,18 @@ with_shares ledger pool to supply n =
 abbrev pub minted : Ledger → List ℕ → Holder → (fee n : ℕ) → Ledger
 minted ledger pool to fee n = with_shares (with_fee ledger pool fee) pool to (supply ledger pool + fee) n
 
+-- a mint of so many shares, after so many for the fee
 abbrev pub mint_shares : Ledger → List ℕ → PairRecord → Holder → (fee n : ℕ) → Outcome MintReceipt
 mint_shares ledger pool pair to fee n = do
   _ ← refuse_if (n == 0) code.InsufficientLiquidityMinted
   new ← updated (minted ledger pool to fee n) pool (after_fee (is_nobody ledger.fee_to) pair)
   Ok (record { ledger = with_pair (minted ledger pool to fee n) pool (with_product (is_nobody ledger.fee_to) new); answer = record { shares = n; fee_shares = fee } })
 
+-- a mint for a free pair, after a fee that counts to the supply
 abbrev pub mint_free : Ledger → List ℕ → PairRecord → Holder → ℕ → Outcome MintReceipt
 mint_free ledger pool pair to fee = mint_shares ledger pool pair to fee (shares_for ledger pool pair (supply ledger pool + fee))
 
+-- shares for what the pool has above its reserves (core, mint)
 unfoldable pub mint : Ledger → List ℕ → Holder → Outcome MintReceipt
 mint ledger pool to = do
   pair ← free_pair ledger pool
@@ -172,7 +189,7 @@ mint ledger pool to = do
 abbrev pub own_shares : Ledger → List ℕ → ℕ
 own_shares ledger pool = balance ledger (asset.Share pool) (holder.Pool pool)
 
--- what the pool's own shares stand for, of a supply
+-- what the pool's own shares stand for: their part, of a supply, of all that the pool has (core, burn)
 unfoldable pub parts_of : Ledger → List ℕ → (supply fee : ℕ) → BurnReceipt
 parts_of ledger pool supply fee = record {
   amount0 = own_shares ledger pool * held0 ledger pool / supply;
@@ -187,6 +204,7 @@ pay_out ledger pool to shares parts = do
   first ← transfer fewer.ledger (asset0 pool) (holder.Pool pool) to parts.amount0
   transfer first.ledger (asset1 pool) (holder.Pool pool) to parts.amount1
 
+-- a burn that pays these parts, after so many shares for the fee
 abbrev pub burn_parts : Ledger → List ℕ → PairRecord → Holder → (fee : ℕ) → BurnReceipt → Outcome BurnReceipt
 burn_parts ledger pool pair to fee parts = do
   _ ← refuse_if (supply ledger pool + fee == 0) code.InsufficientLiquidityBurned
@@ -195,9 +213,11 @@ burn_parts ledger pool pair to fee parts = do
   new ← updated paid.ledger pool (after_fee (is_nobody ledger.fee_to) pair)
   Ok (record { ledger = with_pair paid.ledger pool (with_product (is_nobody ledger.fee_to) new); answer = parts })
 
+-- a burn for a free pair, after a fee that counts to the supply
 abbrev pub burn_free : Ledger → List ℕ → PairRecord → Holder → ℕ → Outcome BurnReceipt
 burn_free ledger pool pair to fee = burn_parts ledger pool pair to fee (parts_of ledger pool (supply ledger pool + fee) fee)
 
+-- the pool's own shares, counted before the fee, end for their part of what the pool has (core, burn)
 unfoldable pub burn : Ledger → List ℕ → Holder → Outcome BurnReceipt
 burn ledger pool to = do
   pair ← free_pair ledger pool

@@ -8,16 +8,18 @@ use Rattle.amm_model.specs.declared.pair.PairRecord.{PairRecord}
 use Rattle.amm_names.specs.Pools.{pool_token0, pool_token1}
 use Rattle.amm_model.specs.Ledger.{Ledger, balance, total}
 
+-- whether two names are spelled alike
 abbrev pub same_name : List ℕ → List ℕ → Bool
 same_name = pointwise nat_eq
 
--- the two assets of a pool, and what the pool has of them
+-- the two tokens of a pool as assets
 abbrev pub asset0 : List ℕ → Asset
 asset0 pool = asset.Token (pool_token0 pool)
 
 abbrev pub asset1 : List ℕ → Asset
 asset1 pool = asset.Token (pool_token1 pool)
 
+-- what the pool has of each, which is not what its record says
 abbrev pub held0 : Ledger → List ℕ → ℕ
 held0 ledger pool = balance ledger (asset0 pool) (holder.Pool pool)
 
@@ -28,15 +30,15 @@ held1 ledger pool = balance ledger (asset1 pool) (holder.Pool pool)
 abbrev pub supply : Ledger → List ℕ → ℕ
 supply ledger pool = total ledger (asset.Share pool)
 
--- the most that a reserve can be
+-- the most that a reserve can be, 2^48-1
 abbrev pub reserve_limit : ℕ
 reserve_limit = 281474976710655
 
--- the first shares are fewer by those that nobody can take out
+-- how many of the first shares nobody can take out again (whitepaper 3.4)
 abbrev pub first_locked : ℕ
 first_locked = 1000
 
--- what a loan was made of: its outputs, and the pair's record, which is locked
+-- what a loan was made of: its pool, its outputs, and the pair's record, which is locked
 pub record Terms : Type 0 where
   pub pool : List ℕ
   pub out0 : ℕ

@@ -1,5 +1,5 @@
 -- What holds of the ledger at every line.
-use Rattle.std.specs.Prelude.{◌≡◌, ◌≢◌, ℕ, ◌+◌, ◌*◌, ◌^◌, ◌<◌, ◌≤◌, ◌⊎◌, true, false, List, length, Some, IsSome}
+use Rattle.std.specs.Prelude.{◌≡◌, ◌≢◌, ℕ, ◌*◌, ◌^◌, ◌<◌, ◌≤◌, ◌⊎◌, true, false, List, length, Some, IsSome}
 use Rattle.std.specs.Map.{keys_of}
 use Rattle.std.specs.List.{IsDistinct}
 use Rattle.amm_names.specs.declared.holder.Holder.TheVariants as holder
@@ -24,6 +24,8 @@ pub record IsCovered (ledger : Ledger) (pool : List ℕ) (pair : PairRecord) : T
   pub first : pair.r0 ≤ held0 ledger pool
   pub second : pair.r1 ≤ held1 ledger pool
 
+-- a pair of a sound ledger: its tokens are listed, its numbers fit, its pool has its reserves unless it is locked,
+-- its shares are backed, and the zero holder keeps the first of them
 pub record IsSoundPair (ledger : Ledger) (pool : List ℕ) (pair : PairRecord) : Type 0 where
   pub listed : (is_listed ledger.tokens (pool_token0 pool) ≡ true) × (is_listed ledger.tokens (pool_token1 pool) ≡ true)
   pub small : IsSmall pair
@@ -36,6 +38,7 @@ abbrev pub IsKnown : Ledger → Asset → Type 0
 IsKnown ledger (asset.Token name) = is_listed ledger.tokens name ≡ true
 IsKnown ledger (asset.Share pool) = IsSome (pair_of ledger.pairs pool)
 
+-- every pair is sound and has a name of its own, totals are within their limit, only known assets are held, and the counts are within theirs
 pub record IsSound (ledger : Ledger) : Type 0 where
   pub pairs : (pool : List ℕ) (pair : PairRecord) → pair_of ledger.pairs pool ≡ Some pair → IsSoundPair ledger pool pair
   pub names : IsDistinct same_name (keys_of ledger.pairs)
@@ -60,9 +63,3 @@ pub record IsOpen (ledger : Ledger) (loan : Terms) : Type 0 where
 -- the product of the reserves did not fall
 abbrev pub ProductKept : Ledger → Ledger → List ℕ → Type 0
 ProductKept old new pool = (was now : PairRecord) → pair_of old.pairs pool ≡ Some was → pair_of new.pairs pool ≡ Some now → was.r0 * was.r1 ≤ now.r0 * now.r1
-
--- against the squared supply after the protocol's fee, the product of the reserves did not fall
-abbrev pub ShareKept : Ledger → Ledger → List ℕ → ℕ → Type 0
-ShareKept old new pool fee =
-    (was now : PairRecord) → pair_of old.pairs pool ≡ Some was → pair_of new.pairs pool ≡ Some now →
-    (was.r0 * was.r1) * (supply new pool * supply new pool) ≤ (now.r0 * now.r1) * ((supply old pool + fee) * (supply old pool + fee))

@@ -15,6 +15,7 @@ mod prices;
 mod problem;
 mod reply;
 mod route;
+mod trade;
 
 pub use amm_names::{Asset, Holder, Memory, PoolName, TokenName, UserName};
 pub use amounts::AmountList;
@@ -29,6 +30,7 @@ pub use pair::{
 };
 pub use path::{FeeList, RoutePath, TokenList};
 pub use prices::Prices;
-pub use problem::{Problem, ProblemPool, TokenPlaces};
+pub use problem::{Problem, ProblemPool, TokenPlaces, parts_determine_problem};
 pub use reply::{Answer, Reply};
 pub use route::{Leg, Quote, Route};
+pub use trade::{Matched, Side, Trade};

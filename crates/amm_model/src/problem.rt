@@ -1,7 +1,8 @@
 //! The routing problem: how much of one token to bring to another, and over which pools.
-ghost use Rattle.std.specs.Prelude.{◌≡◌, ◌<◌, All, IfOk, MatchOption, length, map};
+ghost use Rattle.std.specs.Prelude.{◌≡◌, ◌<◌, ◌≤◌, ℕ, List, All, IfOk, MatchOption, length, map};
+ghost use Rattle.amm_model.specs.declared.problem.ProblemPool as pool_view;
 ghost use Rattle.amm_model.specs.declared.problem.TokenPlaces as places_view;
-ghost use Rattle.amm_model.specs.Routing.{AreParts, IsProblem, IsProblemOf, places_of, token_place};
+ghost use Rattle.amm_model.specs.Routing.{AreParts, IsProblem, IsProblemOf, ProblemView, places_of, token_place};
 
 use crate::ProblemPoolList;
 use crate::parts::{are_parts, place_of, places_of, spelled, tokens_of};
@@ -56,6 +57,12 @@ impl Model for Problem {
         × (p.t_place ≡ token_place p.tokens.items p.t)
         × (p.places.items ≡ map (places_of p.tokens.items) p.pools) };
 }
+
+/// The parts of a problem determine it: its tokens are no choice.
+pub fn parts_determine_problem()
+    ensures { (s t : List ℕ) (d : ℕ) (pools : List pool_view.ProblemPool) (p q : ProblemView) →
+        IsProblemOf s t d pools p → IsProblemOf s t d pools q → p ≡ q }
+{}
 
 impl Problem {
     /// The problem of bringing `d` of `s` to `t` over the pools. None where `s` is `t`, `d` is not 1
@@ -135,6 +142,7 @@ impl Problem {
         ensures source { result.0 ≡ token_place self.now.tokens self.now.s }
         ensures target { result.1 ≡ token_place self.now.tokens self.now.t }
         ensures there { (result.0 < length self.now.tokens) × (result.1 < length self.now.tokens) }
+        ensures few { length self.now.tokens ≤ 514 }
     {
         (self.s_place, self.t_place)
     }
@@ -143,6 +151,7 @@ impl Problem {
     pub fn places(&self) -> &[TokenPlaces]
         ensures list { result.now ≡ map (places_of self.now.tokens) self.now.pools }
         ensures there { All (λ (at : places_view.TokenPlaces). (at.zero < length self.now.tokens) × (at.one < length self.now.tokens)) result.now }
+        ensures few { length self.now.tokens ≤ 514 }
     {
         &self.places
     }

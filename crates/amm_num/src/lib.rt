@@ -85,6 +85,9 @@ mod tests {
     #[test]
     fn products_are_divided_once(rt: HostRuntime) {
         assert_eq!(rt; mul_div(7, 3, 2), 10);
-        assert_eq!(rt; mul_div(u64::MAX, u64::MAX, u64::MAX as u128), u64::MAX as u128);
+        assert_eq!(rt;
+            mul_div(u64::MAX, u64::MAX, u64::MAX as u128),
+            u64::MAX as u128
+        );
     }
 }

@@ -14,7 +14,7 @@ use Rattle.amm_names.specs.Pools.{pool_token0, pool_token1}
 use Rattle.amm_model.specs.Formulas.{IsBacked, grown}
 use Rattle.amm_model.specs.Ledger.{Ledger, Made, Pairs, balance, total, total_limit, pair_of, set_pair, with_pair, transfer, is_listed}
 use Rattle.amm_model.specs.Pools.{asset0, asset1, held0, held1, supply, first_locked, reserve_limit}
-use Rattle.amm_model.specs.Operations.{if_free, free_pair, renewed, updated, sync, skim, excess}
+use Rattle.amm_model.specs.Operations.{if_free, free_pair, renewed, updated_to, updated, sync, skim, excess}
 use Rattle.amm_model.specs.Sound.{IsSmall, IsCovered, IsSoundPair, IsSound, IsAtRest}
 use Rattle.amm_model.proofs.Guards.{given, past_refusal, same_answer}
 use Rattle.amm_model.proofs.Names.{some_there, one_value, pair_of-set_here}
@@ -44,7 +44,7 @@ pub record Renewed (ledger : Ledger) (pool : List ℕ) (pair new : PairRecord) :
   pub small1 : held1 ledger pool ≤ reserve_limit
 
 pub updated_renewed : (ledger : Ledger) (pool : List ℕ) (pair new : PairRecord) → updated ledger pool pair ≡ Ok new → Renewed ledger pool pair new
-unfolding updated
+unfolding updated_to
 updated_renewed ledger pool pair new is =
     let first = past_refusal (nat_lt reserve_limit (held0 ledger pool)) code.Overflow _ new is in
     let second = past_refusal (nat_lt reserve_limit (held1 ledger pool)) code.Overflow _ new first.1 in

@@ -16,9 +16,7 @@ pub(crate) fn held0(book: &Book, pool: &PoolName) -> u64
     ensures amount { result ≡ held0 book.now.ledger pool.now }
     ensures limit { result ≤ total_limit }
 {
-    let asset = Asset::Token(*pool.token0());
-    let _total = book.total(&asset);
-    book.balance(&asset, &Holder::Pool(*pool))
+    book.balance(&Asset::Token(*pool.token0()), &Holder::Pool(*pool))
 }
 
 /// What the pool has of its second token, at most 2^52-1.
@@ -26,9 +24,7 @@ pub(crate) fn held1(book: &Book, pool: &PoolName) -> u64
     ensures amount { result ≡ held1 book.now.ledger pool.now }
     ensures limit { result ≤ total_limit }
 {
-    let asset = Asset::Token(*pool.token1());
-    let _total = book.total(&asset);
-    book.balance(&asset, &Holder::Pool(*pool))
+    book.balance(&Asset::Token(*pool.token1()), &Holder::Pool(*pool))
 }
 
 /// How many shares of the pool there are.

@@ -13,6 +13,8 @@ mod loans;
 mod protocol;
 mod records;
 mod surplus;
+#[cfg(test)]
+mod tests;
 
 pub use liquidity::{burn, mint};
 pub use loans::{Loan, abandon_loan, close_loan, open_loan, swap};

@@ -49,7 +49,9 @@ fn mint_at(alloc: Global, tx: &mut Tx, pool: &PoolName, to: &Holder) -> Result<M
     }
     take_fee(alloc, tx, pool, fee)?;
     give_shares(alloc, tx, pool, to, before, shares)?;
-    let new = match updated(tx.book(), pool, &after_fee(nobody, &pair)) {
+    let b0 = held0(tx.book(), pool);
+    let b1 = held1(tx.book(), pool);
+    let new = match updated(&after_fee(nobody, &pair), tx.book().time(), b0, b1) {
         Ok(new) => new,
         Err(why) => return Err(tx.refuse(why)),
     };
@@ -115,18 +117,20 @@ fn burn_at(alloc: Global, tx: &mut Tx, pool: &PoolName, to: &Holder) -> Result<B
     };
     let nobody = is_nobody(tx.book().fee_to());
     let fee = fee_due(tx.book(), pool, &pair);
-    let before = supply(tx.book(), pool) + fee;
-    if before == 0 {
+    let whole = supply(tx.book(), pool) + fee;
+    if whole == 0 {
         return Err(tx.refuse(Refusal::InsufficientLiquidityBurned));
     }
     let own = own_shares(tx.book(), pool);
-    let parts = parts_of(tx.book(), pool, before, fee);
+    let parts = parts_of(tx.book(), pool, whole, fee);
     if parts.amount0 == 0 || parts.amount1 == 0 {
         return Err(tx.refuse(Refusal::InsufficientLiquidityBurned));
     }
     take_fee(alloc, tx, pool, fee)?;
     pay_out(alloc, tx, pool, to, own, &parts)?;
-    let new = match updated(tx.book(), pool, &after_fee(nobody, &pair)) {
+    let b0 = held0(tx.book(), pool);
+    let b1 = held1(tx.book(), pool);
+    let new = match updated(&after_fee(nobody, &pair), tx.book().time(), b0, b1) {
         Ok(new) => new,
         Err(why) => return Err(tx.refuse(why)),
     };

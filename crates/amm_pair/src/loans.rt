@@ -1,8 +1,7 @@
 //! Loans and swaps: a pool lends under its lock, and is paid back.
 ghost use Rattle.std.specs.Prelude.{◌≡◌, ◌≢◌, ◌≤◌, true, Some, IfOk, OnOk, OnErr};
 ghost use Rattle.amm_model.specs.Ledger.{pair_of};
-ghost use Rattle.amm_model.specs.Pools.{held0, held1, reserve_limit};
-ghost use Rattle.amm_model.specs.Operations.{lend, open_loan, give_back, swap, came_in, keeps_product, is_token_of};
+ghost use Rattle.amm_model.specs.Operations.{lend, open_loan, give_back, swap, came_to, is_token_of};
 ghost use Rattle.amm_model.specs.Sound.{IsSound, IsOpen, ProductKept};
 ghost use Rattle.amm_state.specs.Tx.{Meets};
 
@@ -10,7 +9,7 @@ use crate::holdings::{held0, held1, send0, send1};
 use crate::records::{free_pair, updated};
 use amm_model::{Fault, Holder, PairRecord, PoolName, Refusal, SwapReceipt};
 use amm_pool::admits;
-use amm_state::{Book, Mark, Tx};
+use amm_state::{Mark, Tx};
 use std::alloc::Global;
 use std::marker::Model;
 
@@ -133,14 +132,16 @@ fn give_back_at(
     ensures meets { Meets tx.old tx.new result (give_back tx.old.present pool.now out0 out1) }
     ensures kept { OnErr result (tx.new.present ≡ tx.old.present) }
 {
-    let receipt = came_in(tx.book(), pool, pair, out0, out1);
-    if receipt.in0 == 0 && receipt.in1 == 0 {
+    let b0 = held0(tx.book(), pool);
+    let b1 = held1(tx.book(), pool);
+    let paid = came_in(pair, b0, b1, out0, out1);
+    if paid.in0 == 0 && paid.in1 == 0 {
         return Err(tx.refuse(Refusal::InsufficientInputAmount));
     }
-    if !keeps_product(tx.book(), pool, pair, &receipt) {
+    if !admits(pool.fee(), pair.r0, pair.r1, b0, b1, paid.in0, paid.in1) {
         return Err(tx.refuse(Refusal::K));
     }
-    let new = match updated(tx.book(), pool, pair) {
+    let new = match updated(pair, tx.book().time(), b0, b1) {
         Ok(new) => new,
         Err(why) => return Err(tx.refuse(why)),
     };
@@ -149,37 +150,20 @@ fn give_back_at(
         ..new
     };
     tx.set_pair(alloc, pool, free)?;
-    Ok(receipt)
+    Ok(paid)
 }
 
 // What has come in since the outputs went out.
-fn came_in(book: &Book, pool: &PoolName, pair: &PairRecord, out0: u64, out1: u64) -> SwapReceipt
-    ensures value { result ≡ came_in book.now.ledger pool.now pair.now out0 out1 }
-    ensures within { (result.in0 ≤ held0 book.now.ledger pool.now) × (result.in1 ≤ held1 book.now.ledger pool.now) }
+fn came_in(pair: &PairRecord, b0: u64, b1: u64, out0: u64, out1: u64) -> SwapReceipt
+    ensures value { result ≡ came_to pair.now b0 b1 out0 out1 }
+    ensures within { (result.in0 ≤ b0) × (result.in1 ≤ b1) }
 {
     SwapReceipt {
-        in0: held0(book, pool).saturating_sub(pair.r0.saturating_sub(out0)),
-        in1: held1(book, pool).saturating_sub(pair.r1.saturating_sub(out1)),
+        in0: b0.saturating_sub(pair.r0.saturating_sub(out0)),
+        in1: b1.saturating_sub(pair.r1.saturating_sub(out1)),
         out0,
         out1,
     }
-}
-
-// Whether what the pool has keeps the product, at the pool's fee.
-fn keeps_product(book: &Book, pool: &PoolName, pair: &PairRecord, receipt: &SwapReceipt) -> bool
-    requires small { (pair.now.r0 ≤ reserve_limit) × (pair.now.r1 ≤ reserve_limit) }
-    requires within { (receipt.now.in0 ≤ held0 book.now.ledger pool.now) × (receipt.now.in1 ≤ held1 book.now.ledger pool.now) }
-    ensures { result ≡ keeps_product book.now.ledger pool.now pair.now receipt.now }
-{
-    admits(
-        pool.fee(),
-        pair.r0,
-        pair.r1,
-        held0(book, pool),
-        held1(book, pool),
-        receipt.in0,
-        receipt.in1,
-    )
 }
 
 /// A loan that is open: its pool, what went out, and the pair's record, which is locked.

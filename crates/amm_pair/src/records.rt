@@ -1,12 +1,11 @@
 //! The record of a pair, as it is and as an update leaves it.
 ghost use Rattle.std.specs.Prelude.{◌≡◌, ◌≤◌, Some, IfOk};
 ghost use Rattle.amm_model.specs.Ledger.{pair_of};
-ghost use Rattle.amm_model.specs.Operations.{free_pair, updated};
+ghost use Rattle.amm_model.specs.Operations.{free_pair, updated_to};
 ghost use Rattle.amm_model.specs.Pools.{supply, reserve_limit};
 ghost use Rattle.amm_model.specs.Sound.{IsSound, IsSmall, IsCovered};
 ghost use Rattle.amm_model.specs.Formulas.{IsBacked};
 
-use crate::holdings::{held0, held1};
 use amm_model::{PairRecord, PoolName, Refusal};
 use amm_pool::accumulate;
 use amm_state::Book;
@@ -33,24 +32,18 @@ pub(crate) fn free_pair(book: &Book, pool: &PoolName) -> Result<PairRecord, Refu
     }
 }
 
-/// The record with what the pool has as its reserves.
-#[tactic(auto, unfolding(amm_model::specs::Operations::updated))]
-pub(crate) fn updated(
-    book: &Book,
-    pool: &PoolName,
-    pair: &PairRecord,
-) -> Result<PairRecord, Refusal>
-    ensures value { result ≡ updated book.now.ledger pool.now pair.now }
+/// The record with these balances as its reserves, if they are at most 2^48-1.
+#[tactic(auto, unfolding(amm_model::specs::Operations::updated_to))]
+pub(crate) fn updated(pair: &PairRecord, time: u64, b0: u64, b1: u64) -> Result<PairRecord, Refusal>
+    ensures value { result ≡ updated_to pair.now time b0 b1 }
     ensures reserves { IfOk result (λ new. (new.r0 ≤ reserve_limit) × (new.r1 ≤ reserve_limit)) }
 {
-    let r0 = held0(book, pool);
-    let r1 = held1(book, pool);
-    if r0 > RESERVE_LIMIT || r1 > RESERVE_LIMIT {
+    if b0 > RESERVE_LIMIT || b1 > RESERVE_LIMIT {
         return Err(Refusal::Overflow);
     }
     Ok(PairRecord {
-        r0,
-        r1,
-        ..accumulate(pair, book.time())
+        r0: b0,
+        r1: b1,
+        ..accumulate(pair, time)
     })
 }

@@ -33,7 +33,9 @@ fn sync_at(alloc: Global, tx: &mut Tx, pool: &PoolName) -> Result<(), Fault>
         Ok(pair) => pair,
         Err(why) => return Err(tx.refuse(why)),
     };
-    let new = match updated(tx.book(), pool, &pair) {
+    let b0 = held0(tx.book(), pool);
+    let b1 = held1(tx.book(), pool);
+    let new = match updated(&pair, tx.book().time(), b0, b1) {
         Ok(new) => new,
         Err(why) => return Err(tx.refuse(why)),
     };

@@ -5,6 +5,8 @@
 //! reserves below 2^48, balances and amounts below 2^52. None takes memory and none refuses.
 #![tactic(auto)]
 
+mod laws;
+
 ghost use Rattle.std.specs.Prelude.{◌≡◌, ◌+◌, ◌-◌, ◌*◌, ◌/◌, ◌^◌, ◌<◌, ◌≤◌, ◌↔◌, IsTrue};
 ghost use Rattle.amm_model.specs.Root.{IsRoot, root_of};
 ghost use Rattle.amm_model.specs.Swap.{Admits, IsFee, IsGreatestOutput, IsLeastInputOrOneMore, admits as admits_of, amount_in_of, amount_out_of, input_weight, quote_of};
@@ -12,6 +14,7 @@ ghost use Rattle.amm_model.specs.Formulas.{elapsed as elapsed_of, grown as grown
 
 use amm_model::PairRecord;
 use amm_num::{mul_div, root};
+pub use laws::{fee_keeps_backing, root_meets_its_rule, shares_keep_product, swap_keeps_product};
 
 // Times are kept modulo 2^32.
 const SECONDS: u64 = 0x1_0000_0000;
@@ -216,7 +219,10 @@ mod tests {
     #[test]
     fn shares(rt: HostRuntime) {
         assert_eq!(rt; first_root(997000, 2000), 44654);
-        assert_eq!(rt; later_shares(110000, 110000, 1015384, 1100000, 1100000), 101538);
+        assert_eq!(rt;
+            later_shares(110000, 110000, 1015384, 1100000, 1100000),
+            101538
+        );
         assert_eq!(rt; burn_amount(200000, 1000000, 2000000), 100000);
         assert_eq!(rt; fee_shares(1000000, 1100000, 1100000, 1000000000000), 15384);
         assert_eq!(rt; fee_shares(1000000, 1100000, 1100000, 0), 0);
@@ -234,6 +240,14 @@ mod tests {
             locked: true,
         };
         let new = accumulate(&old, 4294967296);
-        assert_eq!(rt; new, PairRecord { last: 0, acc0: 79228162514264056118567239679, acc1: 1, ..old });
+        assert_eq!(rt;
+            new,
+            PairRecord {
+                last: 0,
+                acc0: 79228162514264056118567239679,
+                acc1: 1,
+                ..old
+            }
+        );
     }
 }

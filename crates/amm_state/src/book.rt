@@ -125,15 +125,13 @@ impl Book {
         }
     }
 
-    /// What the holder has of the asset.
+    /// What the holder has of the asset, at most 2^52-1.
     pub fn balance(&self, asset: &Asset, holder: &Holder) -> u64
         ensures amount { result ≡ balance self.now.ledger asset.now holder.now }
         ensures within { result ≤ total self.now.ledger asset.now }
+        ensures limit { result ≤ total_limit }
     {
-        match self.assets.get(asset) {
-            Some(rows) => rows.amount(holder),
-            None => 0,
-        }
+        self.account(asset, holder).amount
     }
 
     /// What all holders have of the asset.

@@ -1,8 +1,8 @@
-ghost use Rattle.std.specs.Prelude.{◌≡◌};
+ghost use Rattle.std.specs.Prelude.{◌≡◌, OnOk};
 ghost use Rattle.amm_state.specs.declared.mark.Mark.{Mark};
 
-use crate::{Mark, State, Tx};
-use amm_model::{PairRecord, Refusal};
+use crate::{Book, Mark, State, Tx};
+use amm_model::{Fault, Refusal};
 use amm_names::{Asset, Holder, PoolName, TokenName, UserName};
 use std::alloc::Global;
 use std::test::Fail;
@@ -59,112 +59,126 @@ fn rolls_back_many_moves(rt: HostRuntime) -> Result<(), Fail> {
     let filled = fill(alloc, &mut tx, &asset);
     let total = tx.book().total(&asset);
     let state = tx.rollback();
-    assert_eq!(&rt; total, 40000);
-    assert_eq!(&rt; state.book().total(&asset), 0);
+    assert!(&rt; total == 40000 && state.book().total(&asset) == 0);
     filled
 }
 
-fn moves_units(alloc: Global, tx: &mut Tx) -> Result<(), Fail>
-    requires { tx.old.mark ≡ Mark.Clean }
-{
-    let name = token(alloc)?;
-    let asset = Asset::Token(name);
-    let first = user(alloc, 1)?;
-    let second = user(alloc, 2)?;
-    if tx.list_token(alloc, &name).is_err() {
-        return Err("not listed")?;
-    }
-    if tx.issue(alloc, &asset, &first, 10).is_err() {
-        return Err("not issued")?;
-    }
-    if tx.move_units(alloc, &asset, &first, &second, 4).is_err() {
-        return Err("not moved")?;
-    }
-    if tx.retire(alloc, &asset, &second, 1).is_err() {
-        return Err("not retired")?;
-    }
-    let book = tx.book();
-    if !book.has_token(&name) || book.token_count() != 1 {
-        return Err("not in the list")?;
-    }
-    if book.total(&asset) != 9 || book.balance(&asset, &first) != 6 {
-        return Err("other amounts")?;
-    }
-    Ok(())
+// Whether a book is as `State::new` makes it.
+fn is_opening(book: &Book, asset: &Asset) -> bool {
+    book.total(asset) == 0
+        && book.token_count() == 0
+        && book.pair_count() == 0
+        && *book.fee_to() == Holder::Zero
+        && book.setter().as_bytes() == b"admin".as_slice()
+        && book.time() == 0
 }
 
-fn writes_pairs(alloc: Global, tx: &mut Tx) -> Result<(), Fail>
+fn moves(alloc: Global, tx: &mut Tx, token: &TokenName, from: &Holder) -> Result<(), Fault>
     requires { tx.old.mark ≡ Mark.Clean }
 {
-    let Ok(Some(pool)) = PoolName::read(alloc, b"A/B".as_slice()) else {
-        return Err("no pool")?;
-    };
-    if tx.book().pair(&pool).is_some() {
-        return Err("there before")?;
-    }
-    if tx.add_pair(alloc, &pool).is_err() {
-        return Err("not added")?;
-    }
-    let Some(found) = tx.book().pair(&pool) else {
-        return Err("not there")?;
-    };
-    let record = PairRecord {
-        locked: true,
-        ..*found
-    };
-    if tx.set_pair(alloc, &pool, record).is_err() {
-        return Err("not written")?;
-    }
-    let book = tx.book();
-    if book.pair_count() != 1 || book.pair_at(0).is_none() || !book.any_locked() {
-        return Err("other pairs")?;
-    }
-    Ok(())
+    let asset = Asset::Token(*token);
+    tx.list_token(alloc, token)?;
+    tx.issue(alloc, &asset, from, 10)?;
+    tx.move_units(alloc, &asset, from, &Holder::Zero, 4)?;
+    tx.retire(alloc, &asset, from, 1)
 }
 
-fn sets(alloc: Global, tx: &mut Tx) -> Result<(), Fail>
-    requires { tx.old.mark ≡ Mark.Clean }
-{
-    let Ok(Some(bob)) = UserName::read(alloc, b"bob".as_slice()) else {
-        return Err("no user")?;
-    };
-    if tx.set_fee_to(alloc, &Holder::User(bob)).is_err() {
-        return Err("no receiver")?;
-    }
-    if tx.set_setter(alloc, &bob).is_err() {
-        return Err("no setter")?;
-    }
-    if tx.set_time(alloc, 7).is_err() {
-        return Err("no time")?;
-    }
-    let book = tx.book();
-    if *book.fee_to() != Holder::User(bob) || *book.setter() != bob || book.time() != 7 {
-        return Err("other settings")?;
-    }
-    Ok(())
+fn shows_moves(book: &Book, token: &TokenName, from: &Holder) -> bool {
+    let asset = Asset::Token(*token);
+    book.has_token(token)
+        && book.token_count() == 1
+        && book.total(&asset) == 9
+        && book.balance(&asset, from) == 5
 }
 
 #[test]
-fn takes_each_call_back(rt: HostRuntime) -> Result<(), Fail> {
+fn takes_moves_back(rt: HostRuntime) -> Result<(), Fail> {
     let alloc = rt.alloc();
+    let token = token(alloc)?;
+    let from = user(alloc, 1)?;
     let mut tx = Tx::begin(new_state(alloc)?);
-    let done = moves_units(alloc, &mut tx);
+    let done = moves(alloc, &mut tx, &token, &from).is_ok();
+    let shown = shows_moves(tx.book(), &token, &from);
     let state = tx.rollback();
-    done?;
-    let mut tx = Tx::begin(state);
-    let done = writes_pairs(alloc, &mut tx);
+    assert!(&rt; done && shown && is_opening(state.book(), &Asset::Token(token)));
+    Ok(())
+}
+
+fn sets(alloc: Global, tx: &mut Tx, to: &UserName) -> Result<(), Fault>
+    requires { tx.old.mark ≡ Mark.Clean }
+{
+    tx.set_fee_to(alloc, &Holder::User(*to))?;
+    tx.set_setter(alloc, to)?;
+    tx.set_time(alloc, 7)
+}
+
+fn shows_settings(book: &Book, to: &UserName) -> bool {
+    *book.fee_to() == Holder::User(*to) && book.setter() == to && book.time() == 7
+}
+
+#[test]
+fn takes_settings_back(rt: HostRuntime) -> Result<(), Fail> {
+    let alloc = rt.alloc();
+    let asset = Asset::Token(token(alloc)?);
+    let bob = match UserName::read(alloc, b"bob".as_slice()) {
+        Ok(Some(name)) => name,
+        _ => return Err("no user")?,
+    };
+    let mut tx = Tx::begin(new_state(alloc)?);
+    let done = sets(alloc, &mut tx, &bob).is_ok();
+    let shown = shows_settings(tx.book(), &bob);
     let state = tx.rollback();
-    done?;
-    let mut tx = Tx::begin(state);
-    let done = sets(alloc, &mut tx);
+    assert!(&rt; done && shown && is_opening(state.book(), &asset));
+    Ok(())
+}
+
+fn adds_pair(alloc: Global, tx: &mut Tx, pool: &PoolName) -> Result<(), Fault>
+    requires { tx.old.mark ≡ Mark.Clean }
+    ensures { OnOk result (tx.new.mark ≡ Mark.Clean) }
+{
+    match tx.book().pair(pool) {
+        Some(_) => Ok(()),
+        None => tx.add_pair(alloc, pool),
+    }
+}
+
+fn locks_pair(alloc: Global, tx: &mut Tx, pool: &PoolName) -> Result<(), Fault>
+    requires { tx.old.mark ≡ Mark.Clean }
+{
+    match tx.book().pair(pool) {
+        Some(pair) => {
+            let mut locked = *pair;
+            locked.locked = true;
+            tx.set_pair(alloc, pool, locked)
+        }
+        None => Ok(()),
+    }
+}
+
+fn writes_pair(alloc: Global, tx: &mut Tx, pool: &PoolName) -> Result<(), Fault>
+    requires { tx.old.mark ≡ Mark.Clean }
+{
+    adds_pair(alloc, tx, pool)?;
+    locks_pair(alloc, tx, pool)
+}
+
+fn shows_pair(book: &Book) -> bool {
+    book.pair_count() == 1 && book.pair_at(0).is_some() && book.any_locked()
+}
+
+#[test]
+fn takes_pairs_back(rt: HostRuntime) -> Result<(), Fail> {
+    let alloc = rt.alloc();
+    let asset = Asset::Token(token(alloc)?);
+    let pool = match PoolName::read(alloc, b"A/B".as_slice()) {
+        Ok(Some(name)) => name,
+        _ => return Err("no pool")?,
+    };
+    let mut tx = Tx::begin(new_state(alloc)?);
+    let done = writes_pair(alloc, &mut tx, &pool).is_ok();
+    let shown = shows_pair(tx.book());
     let state = tx.rollback();
-    done?;
-    let book = state.book();
-    assert_eq!(&rt; book.token_count(), 0);
-    assert_eq!(&rt; book.pair_count(), 0);
-    assert!(&rt; *book.fee_to() == Holder::Zero);
-    assert!(&rt; book.setter().as_bytes() == b"admin".as_slice());
-    assert_eq!(&rt; book.time(), 0);
+    assert!(&rt; done && shown && is_opening(state.book(), &asset));
     Ok(())
 }
 
@@ -178,7 +192,6 @@ fn marks_a_fault(rt: HostRuntime) -> Result<(), Fail> {
     tx.lack();
     let lacking = tx.mark();
     let _state = tx.rollback();
-    assert!(&rt; refused == Mark::Refused(Refusal::Funds));
-    assert!(&rt; lacking == Mark::NoMemory);
+    assert!(&rt; refused == Mark::Refused(Refusal::Funds) && lacking == Mark::NoMemory);
     Ok(())
 }

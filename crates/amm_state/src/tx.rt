@@ -111,5 +111,4 @@ impl Tx {
         undo_everything(&mut book, &mut journal);
         State { book, journal }
     }
-
 }

@@ -104,14 +104,14 @@ impl Tx {
         requires { self.old.mark ≡ Mark.Clean }
         ensures { Meets self.old self.new result (transfer self.old.present asset.now from.now to.now n) }
     {
-        let account = self.book.account(asset, from);
-        if account.amount < n {
+        let sender = self.book.account(asset, from);
+        if sender.amount < n {
             return Err(self.refuse(Refusal::Funds));
         }
         if from == to {
             return Ok(());
         }
-        self.write_balance(alloc, asset, from, account.amount, account.amount - n)?;
+        self.write_balance(alloc, asset, from, sender.amount, sender.amount - n)?;
         self.issue(alloc, asset, to, n)
     }
 }

@@ -1,4 +1,5 @@
+use Rattle.std.proofs.Common.{arith}
 use Rattle.amm_pair.proofs.loans.give_back_at.Goals as goal
 
-pub keeps_product-requires-clause-small : goal.keeps_product-requires-clause-small
-keeps_product-requires-clause-small c = let small = (c.requires.sound.pairs _ _ c.requires.there).small in (small.r0, small.r1)
+pub admits-requires-clause-reserves : goal.admits-requires-clause-reserves
+admits-requires-clause-reserves c = let small = (c.requires.sound.pairs _ _ c.requires.there).small in (omega (arith, small.r0), omega (arith, small.r1))

@@ -1,0 +1,39 @@
+//! A whole certificate.
+ghost use Rattle.std.specs.Prelude.{◌≡◌, ◌++◌, IfOk, OnOk};
+ghost use Rattle.serde_json.specs.Written.{compact_text};
+ghost use Rattle.amm_model.specs.Certificate.{certificate_value, certificate_text, IsWritable};
+
+use crate::piece::{push_number, push_token, push_wide};
+use crate::quote::{push_legs, push_pools, push_prices};
+use amm_model::{Memory, Quote};
+use std::alloc::Global;
+
+/// The certificate of a quote.
+#[tactic(auto, unfolding(amm_model::specs::Certificate::certificate_text))]
+pub fn write(alloc: Global, quote: &Quote) -> Result<Vec<u8>, Memory>
+    requires { IsWritable quote.now }
+    ensures { IfOk result (λ text. text.items ≡ certificate_text quote.now) }
+{
+    let mut text = Vec::with_capacity(alloc, 1024)?;
+    put_certificate(&mut text, quote)?;
+    Ok(text)
+}
+
+/// The certificate of a quote, behind what is there.
+pub fn put_certificate(text: &mut Vec<u8>, quote: &Quote) -> Result<(), Memory>
+    requires { IsWritable quote.now }
+    ensures { OnOk result (text.new.items ≡ text.old.items ++ compact_text (certificate_value quote.now)) }
+{
+    let problem = &quote.problem;
+    text.extend_from_slice(b"[\"amm-split-certificate\",2")?;
+    push_token(text, problem.s())?;
+    push_token(text, problem.t())?;
+    push_number(text, problem.d())?;
+    push_pools(text, problem.pools())?;
+    push_prices(text, problem.tokens(), quote.prices.as_slice())?;
+    push_legs(text, problem.pools(), quote.route.legs.as_slice())?;
+    push_number(text, quote.delivered)?;
+    push_wide(text, quote.bound)?;
+    text.push(b']')?;
+    Ok(())
+}

@@ -1,0 +1,82 @@
+-- What stands at the places of tokens, before the first leg and after one more.
+use Rattle.std.proofs.Common.{◌≡◌, ◌≢◌, ℕ, ◌+◌, ◌-◌, ◌*◌, ◌^◌, ◌<◌, ◌≤◌, ◌⊎◌, inl, inr, Bool, true, false, cond, nat_eq, List, [], ◌∷◌, length, take, arith, zero, suc, refl, sym, ap, subst, ◌∙◌, get_or, set}
+use Rattle.std.specs.Prelude.{AllPairs, All}
+use Rattle.std.specs.Str.{bytes_eq}
+use Rattle.std.proofs.lemmas.Bool.{cases_lt}
+use Rattle.std.proofs.lemmas.Bool.Decides.{nat_tests}
+use Rattle.std.proofs.lemmas.Slice.Eq.{bytes_eq-Decides}
+use Rattle.std.proofs.lemmas.List.{get_or-replicate, get_or-set_same, get_or-set_other}
+use Rattle.std.proofs.lemmas.List.Sums.{passes_at_first}
+use Rattle.std.proofs.Math.ListN.{replicate, length-replicate, length-set, get_or-eq_default}
+use Rattle.amm_model.specs.Routing.{Name, token_place}
+
+-- two tests that go with each other
+both : (b c : Bool) → (b ≡ true → c ≡ true) → (c ≡ true → b ≡ true) → b ≡ c
+both true c to back = sym (to refl)
+both false true to back = back refl
+both false false to back = refl
+
+-- a token is at its place, and at no other
+pub same_at : (tokens : List Name) → AllPairs (λ (a b : Name). a ≢ b) tokens → (name : Name) → token_place tokens name < length tokens →
+    (j : ℕ) → j < length tokens → bytes_eq (get_or tokens j []) name ≡ nat_eq j (token_place tokens name)
+same_at tokens once name there j below = both _ _ to back
+  where
+    found : name ≡ get_or tokens (token_place tokens name) []
+    found = (bytes_eq-Decides name (get_or tokens (token_place tokens name) [])).0 (passes_at_first (bytes_eq name) tokens [] there)
+
+    back : nat_eq j (token_place tokens name) ≡ true → bytes_eq (get_or tokens j []) name ≡ true
+    back e =
+        let same : j ≡ token_place tokens name = grind (arith, nat_tests) in
+        (bytes_eq-Decides (get_or tokens j []) name).1 (ap (λ (k : ℕ). get_or tokens k []) same ∙ sym found)
+
+    apart : get_or tokens j [] ≡ name → j ≢ token_place tokens name → ⊥
+    apart e differ = elim (cases_lt j (token_place tokens name)) [
+      | inl lt ↦ once j (token_place tokens name) [] lt there (e ∙ found)
+      | inr ge ↦ once (token_place tokens name) j [] (omega arith) below (sym found ∙ sym e)
+    ]
+
+    pick : (c : Bool) → nat_eq j (token_place tokens name) ≡ c → get_or tokens j [] ≡ name → c ≡ true
+    pick true t e = refl
+    pick false t e = absurd (apart e (grind (arith, nat_tests)))
+
+    to : bytes_eq (get_or tokens j []) name ≡ true → nat_eq j (token_place tokens name) ≡ true
+    to e = pick (nat_eq j (token_place tokens name)) refl ((bytes_eq-Decides (get_or tokens j []) name).0 e)
+
+-- one place is set
+pub read_set : (xs : List ℕ) (i y j : ℕ) → i < length xs → get_or (set xs i y) j 0 ≡ cond (nat_eq j i) y (get_or xs j 0)
+read_set xs i y j inside = pick (nat_eq j i) refl
+  where
+    pick : (b : Bool) → nat_eq j i ≡ b → get_or (set xs i y) j 0 ≡ cond b y (get_or xs j 0)
+    pick true e =
+        let same : i ≡ j = grind (arith, nat_tests) in
+        subst (λ (k : ℕ). get_or (set xs i y) k 0 ≡ y) same (get_or-set_same xs i y 0 inside)
+    pick false e = get_or-set_other xs i j y 0 (grind (arith, nat_tests))
+
+-- an amount goes from one place to another
+pub moved : (held : List ℕ) (from to input output j : ℕ) → from < length held → to < length held →
+    get_or (set (set held from (get_or held from 0 - input)) to (get_or (set held from (get_or held from 0 - input)) to 0 + output)) j 0
+    ≡ (get_or held j 0 - cond (nat_eq j from) input 0) + cond (nat_eq j to) output 0
+moved held from to input output j from-in to-in =
+    let less = set held from (get_or held from 0 - input) in
+    let inside : to < length less = rw (length-set held from (get_or held from 0 - input)) to-in in
+    read_set less to (get_or less to 0 + output) j inside
+    ∙ ap (λ (n : ℕ). cond (nat_eq j to) (n + output) (get_or less j 0)) (read_set held from (get_or held from 0 - input) to from-in)
+    ∙ ap (λ (n : ℕ). cond (nat_eq j to) (cond (nat_eq to from) (get_or held from 0 - input) (get_or held to 0) + output) n) (read_set held from (get_or held from 0 - input) j from-in)
+    ∙ pick (nat_eq j to) (nat_eq j from) (nat_eq to from) refl refl refl
+  where
+    pick : (a b c : Bool) → nat_eq j to ≡ a → nat_eq j from ≡ b → nat_eq to from ≡ c →
+        cond a (cond c (get_or held from 0 - input) (get_or held to 0) + output) (cond b (get_or held from 0 - input) (get_or held j 0))
+        ≡ (get_or held j 0 - cond b input 0) + cond a output 0
+    pick true true true at_to at_from same = let e : j ≡ from = grind (arith, nat_tests) in let h : get_or held j 0 ≡ get_or held from 0 = ap (λ (k : ℕ). get_or held k 0) e in omega arith
+    pick true true false at_to at_from same = absurd (grind (arith, nat_tests))
+    pick true false true at_to at_from same = absurd (grind (arith, nat_tests))
+    pick true false false at_to at_from same = let e : j ≡ to = grind (arith, nat_tests) in let h : get_or held j 0 ≡ get_or held to 0 = ap (λ (k : ℕ). get_or held k 0) e in omega arith
+    pick false true c at_to at_from same = let e : j ≡ from = grind (arith, nat_tests) in let h : get_or held j 0 ≡ get_or held from 0 = ap (λ (k : ℕ). get_or held k 0) e in omega arith
+    pick false false c at_to at_from same = omega arith
+
+-- one value everywhere
+pub read_replicate : {X : Type 0} (n j : ℕ) (x : X) → get_or (replicate n x) j x ≡ x
+read_replicate n j x = elim (cases_lt j n) [
+  | inl below ↦ get_or-replicate n j x x below
+  | inr past ↦ get_or-eq_default (replicate n x) x (omega (arith, length-replicate n x))
+]

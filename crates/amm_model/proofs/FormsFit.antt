@@ -1,0 +1,140 @@
+-- The forms of values give names that are names, and numbers within their limits.
+use Rattle.std.proofs.Common.{◌≡◌, ◌≤◌, ◌∷◌, ℕ, suc, nat_le, Bool, true, false, ◌&&◌, List, [], length, map, Ok, refl, ap, subst, arith}
+use Rattle.std.specs.Prelude.{IsTrue}
+use Rattle.std.specs.List.{All}
+use Rattle.std.proofs.lemmas.List.Elements.{All-nil, All-cons}
+use Rattle.std.proofs.lemmas.Bool.Decides.{nat_tests}
+use Rattle.serde_json.specs.Data.{Data, null, boolean, number, string, array, object}
+use Rattle.amm_names.specs.Names.{is_user_name, is_token_name}
+use Rattle.amm_names.specs.Pools.{is_pool_name, is_fee}
+use Rattle.amm_model.specs.declared.path.RoutePath.{RoutePath}
+use Rattle.amm_model.specs.Outcome.{◌>>=◌}
+use Rattle.amm_model.specs.Swap.{IsFee}
+use Rattle.amm_model.specs.Forms.{as_text, as_list, as_user, as_token, as_pool, as_path, as_amount, as_fee, as_whole, fee_behind, fitting, amount_max, Hop, hops, path_along}
+use Rattle.amm_model.specs.Fits.{IsAmount, IsPath}
+use Rattle.amm_model.proofs.Guards.{given, same_answer}
+
+-- what was fitting passed the test
+pub passed : {A : Type 0} (test : Bool) (x made : A) → fitting test x ≡ Ok made → IsTrue test × (x ≡ made)
+passed true x made is = (refl, same_answer x made is)
+passed false x made is = cc
+
+pub user_named : (d : Data) (name : List ℕ) → as_user d ≡ Ok name → IsTrue (is_user_name name)
+unfolding as_user
+user_named d name is =
+    let text = given (as_text d) _ name is in
+    let both = passed (is_user_name text.value) text.value name text.after in
+    subst (λ n. IsTrue (is_user_name n)) both.1 both.0
+
+pub token_named : (d : Data) (name : List ℕ) → as_token d ≡ Ok name → IsTrue (is_token_name name)
+unfolding as_token
+token_named d name is =
+    let text = given (as_text d) _ name is in
+    let both = passed (is_token_name text.value) text.value name text.after in
+    subst (λ n. IsTrue (is_token_name n)) both.1 both.0
+
+pub pool_named : (d : Data) (name : List ℕ) → as_pool d ≡ Ok name → IsTrue (is_pool_name name)
+unfolding as_pool
+pool_named d name is =
+    let text = given (as_text d) _ name is in
+    let both = passed (is_pool_name text.value) text.value name text.after in
+    subst (λ n. IsTrue (is_pool_name n)) both.1 both.0
+
+small : (n : ℕ) → IsTrue (nat_le n amount_max) → IsAmount n
+small n is = grind (arith, nat_tests)
+
+pub amount_small : (d : Data) (n : ℕ) → as_amount d ≡ Ok n → IsAmount n
+unfolding as_amount
+amount_small d n is =
+    let whole = given (as_whole d) _ n is in
+    let both = passed (nat_le whole.value amount_max) whole.value n whole.after in
+    subst IsAmount both.1 (small whole.value both.0)
+
+fee_fits : (d : Data) (fee : ℕ) → as_fee d ≡ Ok fee → IsFee fee
+unfolding as_fee
+fee_fits d fee is =
+    let whole = given (as_whole d) _ fee is in
+    let both = passed (is_fee whole.value) whole.value fee whole.after in
+    subst IsFee both.1 both.0
+
+pub fee_behind_fits : (rest : List Data) (fee : ℕ) → fee_behind rest ≡ Ok fee → IsFee fee
+fee_behind_fits [] fee is = subst IsFee (same_answer 3 fee is) refl
+fee_behind_fits (d ∷ []) fee is = fee_fits d fee is
+fee_behind_fits (d ∷ e ∷ more) fee is = cc
+
+-- ---- paths
+
+pub record HopsFit (hs : List Hop) : Type 0 where
+  pub fees : All IsFee (map (λ hop. hop.fee) hs)
+  pub tokens : All (λ token. IsTrue (is_token_name token)) (map (λ hop. hop.token) hs)
+  pub count : length (map (λ hop. hop.fee) hs) ≡ length (map (λ hop. hop.token) hs)
+
+no_hops_fit : HopsFit []
+no_hops_fit = record { fees = All-nil IsFee; tokens = All-nil (λ token. IsTrue (is_token_name token)); count = refl }
+
+hop_fits : (hop : Hop) (more : List Hop) → IsFee hop.fee → IsTrue (is_token_name hop.token) → HopsFit more → HopsFit (hop ∷ more)
+hop_fits hop more fee token fit = record {
+  fees = All-cons IsFee hop.fee (map (λ h. h.fee) more) fee fit.fees;
+  tokens = All-cons (λ t. IsTrue (is_token_name t)) hop.token (map (λ h. h.token) more) token fit.tokens;
+  count = ap suc fit.count;
+}
+
+at_three : (next : Data) (rest : List Data) (hs : List Hop) → ((more : List Hop) → hops rest ≡ Ok more → HopsFit more)
+    → (as_token next >>= (λ token. hops rest >>= (λ more. Ok (record { fee = 3; token = token } ∷ more)))) ≡ Ok hs → HopsFit hs
+at_three next rest hs fit is =
+    let token = given (as_token next) _ hs is in
+    let more = given (hops rest) _ hs token.after in
+    subst HopsFit (same_answer _ hs more.after) (hop_fits (record { fee = 3; token = token.value }) more.value refl (token_named next token.value token.was) (fit more.value more.was))
+
+hops_fit : (ds : List Data) (hs : List Hop) → hops ds ≡ Ok hs → HopsFit hs
+unfolding hops
+hops_fit [] hs is = subst HopsFit (same_answer [] hs is) no_hops_fit
+hops_fit (number n ∷ []) hs is = at_three (number n) [] hs (λ more e. hops_fit [] more e) is
+hops_fit (number n ∷ next ∷ rest) hs is =
+    let fee = given (as_fee (number n)) _ hs is in
+    let token = given (as_token next) _ hs fee.after in
+    let more = given (hops rest) _ hs token.after in
+    subst HopsFit (same_answer _ hs more.after)
+    (hop_fits (record { fee = fee.value; token = token.value }) more.value (fee_fits (number n) fee.value fee.was) (token_named next token.value token.was) (hops_fit rest more.value more.was))
+hops_fit (null ∷ rest) hs is = at_three null rest hs (λ more e. hops_fit rest more e) is
+hops_fit (boolean b ∷ rest) hs is = at_three (boolean b) rest hs (λ more e. hops_fit rest more e) is
+hops_fit (string s ∷ rest) hs is = at_three (string s) rest hs (λ more e. hops_fit rest more e) is
+hops_fit (array vs ∷ rest) hs is = at_three (array vs) rest hs (λ more e. hops_fit rest more e) is
+hops_fit (object ms ∷ rest) hs is = at_three (object ms) rest hs (λ more e. hops_fit rest more e) is
+
+-- a path, but for how many tokens it has
+pub record Along (path : RoutePath) : Type 0 where
+  pub tokens : All (λ token. IsTrue (is_token_name token)) path.tokens
+  pub fees : All IsFee path.fees
+  pub between : suc (length path.fees) ≡ length path.tokens
+
+along_fits : (ds : List Data) (path : RoutePath) → path_along ds ≡ Ok path → Along path
+along_fits [] path is = cc
+along_fits (first ∷ rest) path is =
+    let token = given (as_token first) _ path is in
+    let more = given (hops rest) _ path token.after in
+    let fit = hops_fit rest more.value more.was in
+    subst Along (same_answer _ path more.after) (record {
+      tokens = All-cons (λ t. IsTrue (is_token_name t)) token.value (map (λ hop. hop.token) more.value) (token_named first token.value token.was) fit.tokens;
+      fees = fit.fees;
+      between = ap suc fit.count;
+    })
+
+both_true : (b c : Bool) → IsTrue (b && c) → IsTrue b × IsTrue c
+both_true true true is = (refl, refl)
+both_true true false is = cc
+both_true false c is = cc
+
+within : (n : ℕ) → IsTrue (nat_le 2 n) → IsTrue (nat_le n 8) → (2 ≤ n) × (n ≤ 8)
+within n first second = (grind (arith, nat_tests), grind (arith, nat_tests))
+
+pub path_fits : (d : Data) (path : RoutePath) → as_path d ≡ Ok path → IsPath path
+unfolding as_path
+path_fits d path is =
+    let ds = given (as_list d) _ path is in
+    let along = given (path_along ds.value) _ path ds.after in
+    let both = passed (nat_le 2 (length along.value.tokens) && nat_le (length along.value.tokens) 8) along.value path along.after in
+    let sides = both_true (nat_le 2 (length along.value.tokens)) (nat_le (length along.value.tokens) 8) both.0 in
+    let size = within (length along.value.tokens) sides.0 sides.1 in
+    let fit = along_fits ds.value along.value along.was in
+    subst IsPath both.1 (record { tokens = fit.tokens; fees = fit.fees; between = fit.between; least = size.0; most = size.1 })

@@ -1,0 +1,50 @@
+//! The amounts along a path.
+ghost use Rattle.std.specs.Prelude.{◌≡◌, ◌≤◌};
+ghost use Rattle.amm_model.specs.Outcome.{Gives};
+ghost use Rattle.amm_model.specs.Fits.{IsPath};
+ghost use Rattle.amm_model.specs.Ledger.{total_limit};
+ghost use Rattle.amm_model.specs.Router.{amounts_out, amounts_in};
+ghost use Rattle.amm_model.specs.Sound.{IsSound};
+
+use crate::plan::{amounts_of, in_along, out_along};
+use amm_model::{AmountList, Fault, RoutePath};
+use amm_state::Book;
+use std::alloc::Global;
+
+/// What an input of `x` leads to along a path: the input, and what each pool pays. `x` is at most
+/// 2^52-1.
+///
+/// Refused pool by pool from the first, in this order: IDENTICAL, NO_PAIR,
+/// INSUFFICIENT_INPUT_AMOUNT, INSUFFICIENT_LIQUIDITY.
+#[tactic(auto, unfolding(amm_model::specs::Router::amounts_out))]
+pub fn amounts_out(
+    alloc: Global,
+    book: &Book,
+    path: &RoutePath,
+    x: u64,
+) -> Result<AmountList, Fault>
+    requires sound { IsSound book.now.ledger }
+    requires path { IsPath path.now }
+    requires amount { x ≤ total_limit }
+    ensures { Gives (λ amounts. amounts) result (amounts_out book.now.ledger path.now x) }
+{
+    let plan = out_along(alloc, book, path, x)?;
+    Ok(amounts_of(alloc, &plan)?)
+}
+
+/// What an output of `y` asks for along a path: the input, and what each pool pays. `y` is at most
+/// 2^52-1.
+///
+/// Refused pool by pool from the last, in this order: IDENTICAL, NO_PAIR,
+/// INSUFFICIENT_OUTPUT_AMOUNT, INSUFFICIENT_LIQUIDITY; then AMOUNT_LIMIT where the input is above
+/// 2^52-1.
+#[tactic(auto, unfolding(amm_model::specs::Router::amounts_in))]
+pub fn amounts_in(alloc: Global, book: &Book, path: &RoutePath, y: u64) -> Result<AmountList, Fault>
+    requires sound { IsSound book.now.ledger }
+    requires path { IsPath path.now }
+    requires amount { y ≤ total_limit }
+    ensures { Gives (λ amounts. amounts) result (amounts_in book.now.ledger path.now y) }
+{
+    let plan = in_along(alloc, book, path, y)?;
+    Ok(amounts_of(alloc, &plan)?)
+}

@@ -1,0 +1,90 @@
+//! The payment of a plan's input, and its swaps.
+ghost use Rattle.std.specs.Prelude.{◌≡◌, OnOk};
+ghost use Rattle.amm_model.specs.Router.{amounts_of, asset_in, receiver_of, swap_along, pay_first, trade_along};
+ghost use Rattle.amm_model.specs.Sound.{IsSound};
+ghost use Rattle.amm_state.specs.Tx.{Meets};
+
+use crate::payments::send;
+use crate::plan::Plan;
+use amm_model::{AmountList, Asset, Fault, Holder, Trade, UserName};
+use amm_pair::swap;
+use amm_state::{Mark, Tx};
+use std::alloc::Global;
+
+/// Pays the input of a plan to its first pool, swaps with each, and gives the amounts.
+#[tactic(auto, unfolding(amm_model::specs::Router::trade_along))]
+pub(crate) fn trade_along(
+    alloc: Global,
+    tx: &mut Tx,
+    actor: &UserName,
+    plan: &Plan,
+    amounts: AmountList,
+    to: &Holder,
+) -> Result<AmountList, Fault>
+    requires clean { tx.old.mark ≡ Mark.Clean }
+    requires sound { IsSound tx.old.present }
+    requires amounts { amounts ≡ amounts_of (record { input = plan.now.input; trades = plan.now.trades.items }) }
+    ensures meets { Meets tx.old tx.new result (trade_along tx.old.present actor.now (record { input = plan.now.input; trades = plan.now.trades.items }) to.now) }
+    ensures sound { OnOk result (IsSound tx.new.present) }
+{
+    pay_first(alloc, tx, actor, plan.input, &plan.trades)?;
+    swap_along(alloc, tx, &plan.trades, to)?;
+    Ok(amounts)
+}
+
+#[tactic(auto, unfolding(amm_model::specs::Router::pay_first))]
+fn pay_first(
+    alloc: Global,
+    tx: &mut Tx,
+    actor: &UserName,
+    input: u64,
+    trades: &[Trade],
+) -> Result<(), Fault>
+    requires clean { tx.old.mark ≡ Mark.Clean }
+    requires sound { IsSound tx.old.present }
+    ensures meets { Meets tx.old tx.new result (pay_first tx.old.present actor.now input trades.now) }
+    ensures sound { OnOk result (IsSound tx.new.present) }
+{
+    match trades.split_first() {
+        Some((first, _)) => send(alloc, tx, &asset_in(first), actor, &first.pool, input),
+        None => Ok(()),
+    }
+}
+
+// The token that goes into the pool.
+fn asset_in(trade: &Trade) -> Asset
+    ensures { result ≡ asset_in trade.now }
+{
+    if trade.zero_in {
+        Asset::Token(*trade.pool.token0())
+    } else {
+        Asset::Token(*trade.pool.token1())
+    }
+}
+
+// Swaps with each pool, which pays to the next one, and at the end to the receiver.
+#[tactic(auto, unfolding(amm_model::specs::Router::swap_along))]
+fn swap_along(alloc: Global, tx: &mut Tx, trades: &[Trade], to: &Holder) -> Result<(), Fault>
+    requires clean { tx.old.mark ≡ Mark.Clean }
+    requires sound { IsSound tx.old.present }
+    ensures meets { Meets tx.old tx.new result (swap_along tx.old.present trades.now to.now) }
+    ensures sound { OnOk result (IsSound tx.new.present) }
+{
+    let Some((trade, later)) = trades.split_first() else {
+        return Ok(());
+    };
+    let out0 = if trade.zero_in { 0 } else { trade.output };
+    let out1 = if trade.zero_in { trade.output } else { 0 };
+    swap(alloc, tx, &trade.pool, out0, out1, &receiver_of(later, to))?;
+    swap_along(alloc, tx, later, to)
+}
+
+// Who gets what a pool pays: the pool of the next trade, and at the end the receiver.
+fn receiver_of(later: &[Trade], to: &Holder) -> Holder
+    ensures { result ≡ receiver_of later.now to.now }
+{
+    match later.split_first() {
+        Some((next, _)) => Holder::Pool(next.pool),
+        None => *to,
+    }
+}

@@ -1,0 +1,213 @@
+//! Each form of a reply.
+ghost use Rattle.amm_model.specs.ReplyText.{CanBeWritten};
+
+use crate::{append, write};
+use amm_model::{
+    AddReceipt, AmountList, Answer, BurnReceipt, Memory, MintReceipt, PairRecord, PoolName,
+    Refusal, RemoveReceipt, Reply, SkimReceipt, SwapReceipt,
+};
+use std::alloc::Global;
+use std::test::Fail;
+
+fn text(alloc: Global, answer: Answer) -> Result<Vec<u8>, Memory>
+    requires { CanBeWritten answer }
+{
+    write(alloc, &Reply { line: 7, answer })
+}
+
+#[test]
+fn words_and_numbers(rt: HostRuntime) -> Result<(), Fail> {
+    let alloc = rt.alloc();
+    let swap = SwapReceipt {
+        in0: 1004,
+        in1: 0,
+        out0: 1000,
+        out1: 0,
+    };
+    let refused = text(alloc, Answer::Refused(Refusal::InsufficientAAmount))?;
+    assert_eq!(rt;
+        refused.as_slice(),
+        b"[7,\"no\",24,\"INSUFFICIENT_A_AMOUNT\"]\n".as_slice()
+    );
+    let deposit = Answer::Deposit {
+        balance: 0,
+        total: 4503599627370495,
+    };
+    assert_eq!(rt;
+        text(alloc, deposit)?.as_slice(),
+        b"[7,\"ok\",0,4503599627370495]\n".as_slice()
+    );
+    let withdraw = Answer::Withdraw {
+        balance: 1,
+        total: 2,
+    };
+    assert_eq!(rt;
+        text(alloc, withdraw)?.as_slice(),
+        b"[7,\"ok\",1,2]\n".as_slice()
+    );
+    assert_eq!(rt;
+        text(alloc, Answer::Transfer)?.as_slice(),
+        b"[7,\"ok\"]\n".as_slice()
+    );
+    assert_eq!(rt;
+        text(alloc, Answer::Time)?.as_slice(),
+        b"[7,\"ok\"]\n".as_slice()
+    );
+    assert_eq!(rt;
+        text(alloc, Answer::FeeTo)?.as_slice(),
+        b"[7,\"ok\"]\n".as_slice()
+    );
+    assert_eq!(rt;
+        text(alloc, Answer::Setter)?.as_slice(),
+        b"[7,\"ok\"]\n".as_slice()
+    );
+    assert_eq!(rt;
+        text(alloc, Answer::Swap(swap))?.as_slice(),
+        b"[7,\"ok\",1004,0,1000,0]\n".as_slice()
+    );
+    assert_eq!(rt;
+        text(alloc, Answer::Flash(swap))?.as_slice(),
+        b"[7,\"ok\",1004,0,1000,0]\n".as_slice()
+    );
+    let settle = Answer::Settle { delivered: 39564 };
+    assert_eq!(rt;
+        text(alloc, settle)?.as_slice(),
+        b"[7,\"ok\",39564]\n".as_slice()
+    );
+    assert_eq!(rt;
+        text(alloc, Answer::Balance { n: 10 })?.as_slice(),
+        b"[7,\"ok\",10]\n".as_slice()
+    );
+    assert_eq!(rt;
+        text(alloc, Answer::Total { n: 20 })?.as_slice(),
+        b"[7,\"ok\",20]\n".as_slice()
+    );
+    Ok(())
+}
+
+#[test]
+fn pools(rt: HostRuntime) -> Result<(), Fail> {
+    let alloc = rt.alloc();
+    let Some(pool) = PoolName::read(alloc, b"ETH/USD:1".as_slice())? else {
+        return Err("no pool")?;
+    };
+    assert_eq!(rt;
+        text(alloc, Answer::Create { pool })?.as_slice(),
+        b"[7,\"ok\",\"ETH/USD:1\"]\n".as_slice()
+    );
+    let mint = Answer::Mint(MintReceipt {
+        shares: 1999000,
+        fee_shares: 0,
+    });
+    assert_eq!(rt;
+        text(alloc, mint)?.as_slice(),
+        b"[7,\"ok\",1999000,0]\n".as_slice()
+    );
+    let burn = Answer::Burn(BurnReceipt {
+        amount0: 3,
+        amount1: 2,
+        fee_shares: 1,
+    });
+    assert_eq!(rt;
+        text(alloc, burn)?.as_slice(),
+        b"[7,\"ok\",3,2,1]\n".as_slice()
+    );
+    let skim = Answer::Skim(SkimReceipt { sent0: 8, sent1: 9 });
+    assert_eq!(rt;
+        text(alloc, skim)?.as_slice(),
+        b"[7,\"ok\",8,9]\n".as_slice()
+    );
+    let sync = Answer::Sync { r0: 4, r1: 5 };
+    assert_eq!(rt;
+        text(alloc, sync)?.as_slice(),
+        b"[7,\"ok\",4,5]\n".as_slice()
+    );
+    let add = Answer::Add(AddReceipt {
+        a: 1000,
+        b: 4000,
+        shares: 2000,
+    });
+    assert_eq!(rt;
+        text(alloc, add)?.as_slice(),
+        b"[7,\"ok\",1000,4000,2000]\n".as_slice()
+    );
+    let remove = Answer::Remove(RemoveReceipt { a: 6, b: 7 });
+    assert_eq!(rt;
+        text(alloc, remove)?.as_slice(),
+        b"[7,\"ok\",6,7]\n".as_slice()
+    );
+    let pair = PairRecord {
+        r0: 1,
+        r1: 281474976710655,
+        last: 4294967294,
+        acc0: 340282366762479720583207265936284319744,
+        acc1: 8589934590,
+        k_last: 0,
+        locked: false,
+    };
+    let whole = Answer::Pool {
+        pair,
+        b0: 1,
+        b1: 281474976710655,
+        supply: 16777215,
+    };
+    assert_eq!(rt;
+        text(alloc, whole)?.as_slice(),
+        b"[7,\"ok\",1,281474976710655,1,281474976710655,16777215,\"0\",4294967294,\"340282366762479720583207265936284319744\",\"8589934590\"]\n".as_slice()
+    );
+    Ok(())
+}
+
+fn amounts(alloc: Global, n: u64) -> Result<AmountList, Memory> {
+    Ok(AmountList::from_vec(Vec::from_slice(alloc, &[10000, n])?))
+}
+
+#[test]
+fn lists(rt: HostRuntime) -> Result<(), Fail> {
+    let alloc = rt.alloc();
+    let swap_in = Answer::SwapIn {
+        amounts: amounts(alloc, 1)?,
+    };
+    assert_eq!(rt;
+        text(alloc, swap_in)?.as_slice(),
+        b"[7,\"ok\",[10000,1]]\n".as_slice()
+    );
+    let swap_out = Answer::SwapOut {
+        amounts: amounts(alloc, 2)?,
+    };
+    assert_eq!(rt;
+        text(alloc, swap_out)?.as_slice(),
+        b"[7,\"ok\",[10000,2]]\n".as_slice()
+    );
+    let quote_out = Answer::QuoteOut {
+        amounts: amounts(alloc, 39564)?,
+    };
+    assert_eq!(rt;
+        text(alloc, quote_out)?.as_slice(),
+        b"[7,\"ok\",[10000,39564]]\n".as_slice()
+    );
+    let quote_in = Answer::QuoteIn {
+        amounts: AmountList::from_vec(Vec::new(alloc)),
+    };
+    assert_eq!(rt;
+        text(alloc, quote_in)?.as_slice(),
+        b"[7,\"ok\",[]]\n".as_slice()
+    );
+    let mut both = Vec::new(alloc);
+    append(
+        &mut both,
+        &Reply {
+            line: 1,
+            answer: Answer::Time,
+        },
+    )?;
+    append(
+        &mut both,
+        &Reply {
+            line: 2,
+            answer: Answer::Time,
+        },
+    )?;
+    assert_eq!(rt; both.as_slice(), b"[1,\"ok\"]\n[2,\"ok\"]\n".as_slice());
+    Ok(())
+}
