@@ -1,5 +1,4 @@
 use Rattle.amm_names.specs.declared.holder.Holder.TheVariants as holders
-use Rattle.amm_model.specs.Sound.{IsAtRest}
 use Rattle.amm_pair.proofs.Shares.{mint_rest}
 use Rattle.amm_flash.proofs.tests.market.mint_shares.Goals as goal
 
