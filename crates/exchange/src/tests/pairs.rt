@@ -284,7 +284,7 @@ fn keeps_at_most_256_pairs(rt: HostRuntime) -> Result<(), Fail> {
     let mut number = 24u64;
     for i in 0..24u64 {
         for j in i + 1..24u64 {
-            number += 1;
+            number = number.saturating_add(1);
             if number > 281 {
                 break;
             }
