@@ -27,6 +27,19 @@ def transfers(users, lines, seed=2):
         yield f'["transfer","user_{draw.randrange(users)}","ETH","user_{draw.randrange(users)}",1]'
 
 
+def stage(kind, amount):
+    return lambda draw: f'["{kind}","user_{draw.randrange(40_000)}","ETH","user_{draw.randrange(40_000)}",{amount}]'
+
+
+STAGES = [
+    ("blank: taken from the source", lambda draw: " " * 45),
+    ("no JSON: taken, and refused at its first byte", lambda draw: "x" + stage("transfer", 1)(draw)),
+    ("no command: taken, read as JSON, and refused by its kind", stage("transfex", 1)),
+    ("refused: taken, read, begun, refused for want of funds, rolled back", stage("transfer", 9_999_999)),
+    ("accepted: all of it, two accounts changed", stage("transfer", 1)),
+]
+
+
 def main():
     with tempfile.TemporaryDirectory() as folder:
         path = Path(folder) / "input"
@@ -35,6 +48,18 @@ def main():
         cost = best(path)
         print(f"{count} lines, 40,000 users, {size:.1f} MiB: {cost}")
         print(f"  {cost.user / count * 1e9:.0f} ns of user time and {cost.system / count * 1e9:.0f} ns of system time a line (one write a reply)")
+
+        print("where the time of a transfer goes: lines of the same length that come less and less far, after 40,000 deposits:")
+        write_lines(path, plain_lines(40_000, 40_000))
+        opening = best(path)
+        for name, line in STAGES:
+            draw = random.Random(3)
+            with open(path, "w") as file:
+                for text in plain_lines(40_000, 40_000):
+                    file.write(text + "\n")
+                for _ in range(200_000):
+                    file.write(line(draw) + "\n")
+            print(f"  {name:66} {(best(path).user - opening.user) / 200_000 * 1e9:6.0f} ns of user time a line")
 
         print("memory against the length of the input, 1,000 users:")
         for lines in (100_000, 1_000_000, 4_000_000):

@@ -48,6 +48,36 @@ fn keeps_books_for_a_day(rt: HostRuntime) -> Result<(), Fail> {
     Ok(())
 }
 
+/// Puts the text so many times behind what is there.
+fn repeat(text: &str, times: u64, to: &mut Vec<u8>) -> Result<(), Fail> {
+    for _ in 0..times {
+        to.extend_from_slice(text.as_bytes())?;
+    }
+    Ok(())
+}
+
+/// Eight loans deep and 256 steps are read, and meet a pool that is not there; more are no command, and neither is a step of
+/// another user.
+#[test]
+fn counts_steps_and_depth(rt: HostRuntime) -> Result<(), Fail> {
+    let mut input = Vec::new(rt.alloc());
+    for depth in [8u64, 9] {
+        repeat("[\"flash\",\"alice\",\"A/B\",1,0,[", depth, &mut input)?;
+        repeat("]]", depth, &mut input)?;
+        input.push(b'\n')?;
+    }
+    for others in [255u64, 256] {
+        input.extend_from_slice(b"[\"flash\",\"alice\",\"A/B\",1,0,[")?;
+        repeat("[\"sync\",\"alice\",\"A/B\"],", others, &mut input)?;
+        input.extend_from_slice(b"[\"sync\",\"alice\",\"A/B\"]]]\n")?;
+    }
+    input.extend_from_slice(b"[\"flash\",\"alice\",\"A/B\",1,0,[[\"sync\",\"bob\",\"A/B\"]]]\n")?;
+    let output =
+        b"[1,\"no\",13,\"NO_PAIR\"]\n[2,\"no\",2,\"BAD_COMMAND\"]\n[3,\"no\",13,\"NO_PAIR\"]\n[4,\"no\",2,\"BAD_COMMAND\"]\n[5,\"no\",2,\"BAD_COMMAND\"]\n";
+    assert!(rt; is_run(&rt, input, output.as_slice())?);
+    Ok(())
+}
+
 /// Eight pools whose token 0 is A, with their token 1 and what a command says of the fee.
 const POOLS: [(&str, &str, &str); 8] = [
     ("A/B", "B", "3"),
