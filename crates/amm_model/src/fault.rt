@@ -129,9 +129,11 @@ impl Refusal {
 }
 
 /// A refusal, or want of memory.
-#[derive(Clone, Copy, Debug, PartialEq, Eq)]
+#[derive(Clone, Copy, Debug, PartialEq, Eq, Error)]
 pub enum Fault {
+    #[error("refused: {0:?}")]
     Refused(Refusal),
+    #[error("out of memory")]
     Memory,
 }
 
