@@ -9,6 +9,8 @@
 mod asset;
 mod borrower;
 mod run;
+#[cfg(test)]
+mod tests;
 
 pub use asset::known;
 pub use borrower::{ScriptBorrower, flash_script};
