@@ -6,7 +6,7 @@ use std::test::Fail;
 fn lines_of<S: Source>(rt: &HostRuntime, limit: u64, source: &mut S) -> Result<Vec<u8>, Fail> {
     let mut lines = Lines::new(rt.alloc(), limit)?;
     let mut text = Vec::new(rt.alloc());
-    let mut ends = 0;
+    let mut ended = false;
     for _ in 0..20 {
         match lines.next(rt.alloc(), source) {
             Ok(Some(Line::Whole(line))) => text.extend_from_slice(line.as_slice())?,
@@ -18,12 +18,11 @@ fn lines_of<S: Source>(rt: &HostRuntime, limit: u64, source: &mut S) -> Result<V
             Err(IoEnd::Memory) => text.extend_from_slice(b"MEMORY")?,
         }
         text.push(b'|')?;
-        if text.ends_with(b"END|") || text.ends_with(b"T|") {
-            ends += 1;
-        }
-        if ends == 2 {
+        let ends = text.ends_with(b"END|") || text.ends_with(b"T|");
+        if ended && ends {
             break;
         }
+        ended = ends;
     }
     Ok(text)
 }
