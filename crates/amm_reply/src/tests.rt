@@ -1,10 +1,13 @@
 //! Each form of a reply.
+ghost use Rattle.std.specs.Prelude.{IfOk};
+ghost use Rattle.amm_model.specs.Certificate.{IsWritable};
 ghost use Rattle.amm_model.specs.ReplyText.{CanBeWritten};
 
 use crate::{append, write};
 use amm_model::{
-    AddReceipt, AmountList, Answer, BurnReceipt, Memory, MintReceipt, PairRecord, PoolName,
-    Refusal, RemoveReceipt, Reply, SkimReceipt, SwapReceipt,
+    AddReceipt, AmountList, Answer, BurnReceipt, Leg, LegList, Memory, MintReceipt, PairRecord,
+    PoolName, Prices, Problem, ProblemPool, Quote, Refusal, RemoveReceipt, Reply, Route,
+    SkimReceipt, SwapReceipt, TokenName,
 };
 use std::alloc::Global;
 use std::test::Fail;
@@ -209,5 +212,70 @@ fn lists(rt: HostRuntime) -> Result<(), Fail> {
         },
     )?;
     assert_eq!(rt; both.as_slice(), b"[1,\"ok\"]\n[2,\"ok\"]\n".as_slice());
+    Ok(())
+}
+
+fn token(alloc: Global, name: &[u8]) -> Result<TokenName, Fail> {
+    match TokenName::read(alloc, name)? {
+        Some(token) => Ok(token),
+        None => Err("no token")?,
+    }
+}
+
+/// A route of one leg over one pool.
+fn quote(alloc: Global) -> Result<Quote, Fail>
+    ensures { IfOk result (λ quote. IsWritable quote) }
+{
+    let eth = token(alloc, b"ETH".as_slice())?;
+    let usd = token(alloc, b"USD".as_slice())?;
+    let Some(name) = PoolName::read(alloc, b"ETH/USD:1".as_slice())? else {
+        return Err("no pool")?;
+    };
+    let mut pools = Vec::new(alloc);
+    pools.push(ProblemPool {
+        name,
+        r0: 1000000,
+        r1: 4000000,
+        b0: 1000000,
+        b1: 4000000,
+    })?;
+    let Some(problem) = Problem::from_parts(alloc, eth, usd, 10000, pools)? else {
+        return Err("no problem")?;
+    };
+    let Some(prices) = Prices::from_parts(Vec::from_slice(alloc, &[4194304, 1048576])?) else {
+        return Err("no prices")?;
+    };
+    if prices.as_slice().len() != problem.tokens().len() || problem.pools().is_empty() {
+        return Err("not priced")?;
+    }
+    let mut legs = Vec::new(alloc);
+    legs.push(Leg {
+        pool: 0,
+        zero_in: true,
+        input: 10000,
+        output: 39564,
+    })?;
+    let legs = LegList::from_vec(legs);
+    Ok(Quote {
+        problem,
+        prices,
+        route: Route { legs },
+        delivered: 39564,
+        bound: 40000,
+    })
+}
+
+#[test]
+fn quotes(rt: HostRuntime) -> Result<(), Fail> {
+    let alloc = rt.alloc();
+    let split = Answer::Split {
+        number: 1,
+        quote: quote(alloc)?,
+    };
+    assert_eq!(rt; text(alloc, split)?.as_slice(), b"[7,\"ok\",1,39564,\"40000\",[[\"ETH\",4194304],[\"USD\",1048576]],[[\"ETH/USD:1\",\"ETH\",10000,39564]]]\n".as_slice());
+    let certificate = Answer::Certificate {
+        quote: quote(alloc)?,
+    };
+    assert_eq!(rt; text(alloc, certificate)?.as_slice(), b"[7,\"ok\",[\"amm-split-certificate\",2,\"ETH\",\"USD\",10000,[[\"ETH/USD:1\",1000000,4000000,1000000,4000000]],[[\"ETH\",4194304],[\"USD\",1048576]],[[\"ETH/USD:1\",\"ETH\",10000,39564]],39564,\"40000\"]]\n".as_slice());
     Ok(())
 }
