@@ -272,10 +272,16 @@ fn quotes(rt: HostRuntime) -> Result<(), Fail> {
         number: 1,
         quote: quote(alloc)?,
     };
-    assert_eq!(rt; text(alloc, split)?.as_slice(), b"[7,\"ok\",1,39564,\"40000\",[[\"ETH\",4194304],[\"USD\",1048576]],[[\"ETH/USD:1\",\"ETH\",10000,39564]]]\n".as_slice());
+    assert_eq!(rt;
+        text(alloc, split)?.as_slice(),
+        b"[7,\"ok\",1,39564,\"40000\",[[\"ETH\",4194304],[\"USD\",1048576]],[[\"ETH/USD:1\",\"ETH\",10000,39564]]]\n".as_slice()
+    );
     let certificate = Answer::Certificate {
         quote: quote(alloc)?,
     };
-    assert_eq!(rt; text(alloc, certificate)?.as_slice(), b"[7,\"ok\",[\"amm-split-certificate\",2,\"ETH\",\"USD\",10000,[[\"ETH/USD:1\",1000000,4000000,1000000,4000000]],[[\"ETH\",4194304],[\"USD\",1048576]],[[\"ETH/USD:1\",\"ETH\",10000,39564]],39564,\"40000\"]]\n".as_slice());
+    assert_eq!(rt;
+        text(alloc, certificate)?.as_slice(),
+        b"[7,\"ok\",[\"amm-split-certificate\",2,\"ETH\",\"USD\",10000,[[\"ETH/USD:1\",1000000,4000000,1000000,4000000]],[[\"ETH\",4194304],[\"USD\",1048576]],[[\"ETH/USD:1\",\"ETH\",10000,39564]],39564,\"40000\"]]\n".as_slice()
+    );
     Ok(())
 }
