@@ -166,6 +166,7 @@ impl Engine {
                 Err(WriteEnd::WriteFault) => return Status::WriteFault,
                 Err(WriteEnd::Memory) => return Status::Memory,
             }
+            lines.give_back(line);
         }
     }
 

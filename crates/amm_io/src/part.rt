@@ -5,7 +5,6 @@ ghost use Rattle.amm_io.specs.Parts.{Holds};
 
 use crate::bytes::all_blank;
 use amm_model::{ByteLine, Line, Memory};
-use std::alloc::Global;
 use std::marker::Model;
 
 /// The most bytes of a line.
@@ -26,11 +25,13 @@ impl Model for Part {
 }
 
 impl Part {
-    pub(crate) fn new(alloc: Global) -> Part
+    /// A part with nothing in it yet, which takes over the room of this buffer.
+    pub(crate) fn over(mut buffer: Vec<u8>) -> Part
         ensures { Holds result [] }
     {
+        buffer.clear();
         Part {
-            bytes: Vec::new(alloc),
+            bytes: buffer,
             long: false,
         }
     }

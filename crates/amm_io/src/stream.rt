@@ -2,7 +2,7 @@
 ghost use Rattle.std.specs.Prelude.{◌≡◌, ◌≢◌, ◌≤◌, ◌+◌, ◌<◌, ℕ, List, [], true, false, IfOk, IfSome, IsErrOf, OnOk, IsTrue, ◌↔◌, length};
 ghost use Rattle.amm_io.specs.Causes.{HasCause};
 ghost use Rattle.amm_io.specs.Streams.{TakesNext, again_of};
-ghost use Rattle.amm_io.specs.Parts.{Refills, EndsPart, LeavesOpen, SameCounts};
+ghost use Rattle.amm_io.specs.Parts.{Holds, Refills, EndsPart, LeavesOpen, SameCounts};
 
 use crate::bytes::newline_at;
 use crate::part::Part;
@@ -11,6 +11,7 @@ use crate::{Failed, IoEnd, Source};
 use amm_model::{Line, Memory};
 use std::alloc::Global;
 use std::marker::Model;
+use std::mem::replace;
 
 /// Why there are no more lines.
 #[derive(Clone, Copy, Debug, PartialEq, Eq)]
@@ -31,6 +32,8 @@ pub struct Lines {
     taken: u128,
     limit: u64,
     met: Option<Stop>,
+    // The room for the next line: that of a line which was given back.
+    spare: Vec<u8>,
 }
 
 impl Model for Lines {
@@ -71,6 +74,7 @@ impl Lines {
             taken: 0,
             limit,
             met: None,
+            spare: Vec::new(alloc),
         })
     }
 
@@ -160,17 +164,32 @@ impl Lines {
         {
             return stopped(stop);
         }
-        self.next_part(alloc, source)
+        let spare = replace(&mut self.spare, Vec::new(alloc));
+        self.next_part(Part::over(spare), source)
+    }
+
+    /// Takes back a line that was given out, for its room.
+    pub fn give_back(&mut self, line: Line)
+        ensures { self.new ≡ self.old }
+    {
+        if let Line::Whole(bytes) = line {
+            self.spare = bytes.into_vec();
+        }
     }
 
     /// Reads on until a part ends.
-    fn next_part<S: Source>(&mut self, alloc: Global, source: &mut S) -> Result<Option<Line>, IoEnd>
+    fn next_part<S: Source>(
+        &mut self,
+        beginning: Part,
+        source: &mut S,
+    ) -> Result<Option<Line>, IoEnd>
+        requires empty { Holds beginning [] }
         ensures next { TakesNext (S.left source.old) (S.left source.new) self.old self.new result }
         ensures cause { HasCause (S.faults source.old) (S.faults source.new) ((self.old.met ≢ Some Stop.ReadFault) × IsErrOf result IoEnd.ReadFault) }
         ensures kept { length self.new.kept ≤ 65536 }
     {
         let _ = &self.met;
-        let mut part = Part::new(alloc);
+        let mut part = beginning;
         'part: loop {
             match self.take_part(&mut part) {
                 Ok(true) => return Ok(Some(part.into_line())),
