@@ -101,14 +101,6 @@ module _ (a b : List ℕ) (fee : ℕ) (pool : IsPool a b fee) where
   unfolding is_pool_name
   spelling_names_pool = rw (token0_of_spelling, token1_of_spelling, fee_of_spelling, pool.first, pool.second, pool.ascending) ((bytes_eq-Decides (pool_spelling a b fee) (pool_spelling a b fee)).1 refl)
 
--- a spelling determines the tokens and the fee
-pub one_spelling : (a b c d : List ℕ) (f g : ℕ) → IsPool a b f → IsPool c d g → pool_spelling a b f ≡ pool_spelling c d g → (a ≡ c) × (b ≡ d) × (f ≡ g)
-one_spelling a b c d f g p q same = (
-  sym (token0_of_spelling a b f p) ∙ ap pool_token0 same ∙ token0_of_spelling c d g q,
-  sym (token1_of_spelling a b f p) ∙ ap pool_token1 same ∙ token1_of_spelling c d g q,
-  sym (fee_of_spelling a b f p) ∙ ap pool_fee same ∙ fee_of_spelling c d g q,
-)
-
 -- a name's parts are a pool, and spell the name
 fee_so : (digits : List ℕ) → IsTrue (is_fee (fee_of_digits digits))
 fee_so digits = by (bytes_eq digits (49 ∷ [])) (bytes_eq digits (49 ∷ 48 ∷ []))

@@ -64,7 +64,7 @@ fn is_user_name(bytes: &[u8]) -> bool
 /// The name of a token.
 #[derive(Clone, Copy, PartialEq, Eq, Hash, PartialOrd, Ord, Drop)]
 pub struct TokenName {
-    text: Text,
+    text: Text<12>,
 }
 
 impl Model for TokenName {
@@ -118,7 +118,7 @@ impl TokenName {
 /// The name of a user.
 #[derive(Clone, Copy, PartialEq, Eq, Hash, PartialOrd, Ord, Drop)]
 pub struct UserName {
-    text: Text,
+    text: Text<32>,
 }
 
 impl Model for UserName {

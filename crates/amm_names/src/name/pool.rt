@@ -18,7 +18,7 @@ pub struct PoolName {
     token0: TokenName,
     token1: TokenName,
     fee: u8,
-    text: Text,
+    text: Text<28>,
 }
 
 impl Model for PoolName {

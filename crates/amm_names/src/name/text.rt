@@ -1,18 +1,19 @@
 //! Bytes of a name, kept in place, compared and hashed as a list.
-ghost use Rattle.std.specs.Prelude.{◌≡◌, ◌≤◌, ◌+◌, ◌++◌, length};
+ghost use Rattle.std.specs.Prelude.{◌≡◌, ◌<◌, ◌≤◌, ◌+◌, ◌++◌, length};
+ghost use borrow.Rule.Slice.PartMut.{put_mid};
 
 use std::cmp::Ordering;
 use std::hash::{Hash, Hasher};
 use std::marker::Model;
 
-/// At most 32 bytes. Those behind the last are 0.
+/// At most `N` bytes. Those behind the last are 0.
 #[derive(Clone, Copy, Drop)]
-pub struct Text {
-    bytes: [u8; 32],
+pub struct Text<const N: usize> {
+    bytes: [u8; N],
     len: u8,
 }
 
-impl Model for Text {
+impl<const N: usize> Model for Text<N> {
     ghost use Rattle.std.specs.Prelude.{List, ℕ, ◌-◌, ◌++◌, length, take};
     ghost use Rattle.amm_names.specs.Padded.{IsPadded, padded, padded_fits};
 
@@ -20,39 +21,47 @@ impl Model for Text {
 
     ghost view = { λ text. take text.len text.bytes };
 
-    ghost invariant = { λ text. IsPadded text.len text.bytes };
+    ghost invariant = { λ text. IsPadded N text.len text.bytes };
 
-    ghost inverse = { λ bytes. record { bytes = padded bytes; len = length bytes } };
+    ghost inverse = { λ bytes. record { bytes = padded N bytes; len = length bytes } };
 
-    ghost inverse_ok = { λ text fits. padded_fits text.len text.bytes fits (λ bytes len. record { bytes = bytes; len = len }) };
+    ghost inverse_ok = { λ text fits. padded_fits N text.len text.bytes fits (λ bytes len. record { bytes = bytes; len = len }) };
 }
 
-impl Text {
+/// Writes the bytes into the field, beginning at a place.
+fn write_at(field: &mut [u8], start: usize, bytes: &[u8])
+    requires { start + length bytes.now ≤ length field.old }
+    ensures { field.new ≡ put_mid start (length bytes.now) field.old bytes.now }
+{
+    field[start..start + bytes.len()].copy_from_slice(bytes);
+}
+
+impl<const N: usize> Text<N> {
     /// Keeps these bytes.
-    pub fn new(bytes: &[u8]) -> Text
-        requires { length bytes.now ≤ 32 }
+    pub fn new(bytes: &[u8]) -> Text<N>
+        requires room { length bytes.now ≤ N }
+        requires small { N < 256 }
         ensures { result ≡ bytes.now }
     {
-        let mut kept = [0; 32];
-        kept[..bytes.len()].copy_from_slice(bytes);
-        Text {
-            bytes: kept,
-            len: bytes.len() as u8,
-        }
+        let empty = Text {
+            bytes: [0; N],
+            len: 0,
+        };
+        empty.with(bytes)
     }
 
     /// These bytes, and more behind them.
-    pub fn with(self, more: &[u8]) -> Text
-        requires { length self + length more.now ≤ 32 }
-        ensures { result ≡ self ++ more.now }
+    pub fn with(self, more: &[u8]) -> Text<N>
+        requires room { length self + length more.now ≤ N }
+        requires small { N < 256 }
+        ensures { result ≡ self.entry ++ more.now }
     {
         let start = self.len as usize;
-        let end = start + more.len();
         let mut bytes = self.bytes;
-        bytes[start..end].copy_from_slice(more);
+        write_at(&mut bytes, start, more);
         Text {
             bytes,
-            len: end as u8,
+            len: (start + more.len()) as u8,
         }
     }
 
@@ -63,7 +72,7 @@ impl Text {
     }
 }
 
-impl PartialEq for Text {
+impl<const N: usize> PartialEq for Text<N> {
     ghost use Rattle.std.specs.Prelude.{nat_eq};
     ghost use Rattle.std.specs.Cmp.{partial_equiv_from_equiv};
     ghost use Rattle.std.specs.Cmp.Lexicographic.{pointwise, nat_list_eq_equiv};
@@ -72,18 +81,18 @@ impl PartialEq for Text {
 
     ghost laws = { partial_equiv_from_equiv nat_list_eq_equiv };
 
-    fn eq(&self, other: &Text) -> bool {
+    fn eq(&self, other: &Text<N>) -> bool {
         self.as_bytes() == other.as_bytes()
     }
 }
 
-impl Eq for Text {
+impl<const N: usize> Eq for Text<N> {
     ghost use Rattle.std.specs.Cmp.Lexicographic.{nat_list_eq_equiv};
 
     ghost laws = { nat_list_eq_equiv };
 }
 
-impl Hash for Text {
+impl<const N: usize> Hash for Text<N> {
     ghost use Rattle.std.proofs.Common.{rules};
     ghost use Rattle.std.specs.Prelude.{[], ◌∷◌};
     ghost use Rattle.std.specs.Cmp.Rules.{hashing};
@@ -97,7 +106,7 @@ impl Hash for Text {
     }
 }
 
-impl Ord for Text {
+impl<const N: usize> Ord for Text<N> {
     ghost use Rattle.std.proofs.Common.{rules};
     ghost use Rattle.std.specs.Cmp.Rules.{comparing};
     ghost use Rattle.std.specs.Cmp.Lexicographic.{slice_cmp, nat_list_cmp_total};
@@ -111,12 +120,12 @@ impl Ord for Text {
 
     ghost matches_eq = { Prim.search (comparing, rules) };
 
-    fn cmp(&self, other: &Text) -> Ordering {
+    fn cmp(&self, other: &Text<N>) -> Ordering {
         self.as_bytes().cmp(&other.as_bytes())
     }
 }
 
-impl PartialOrd for Text {
+impl<const N: usize> PartialOrd for Text<N> {
     ghost use Rattle.std.proofs.Common.{rules};
     ghost use Rattle.std.specs.Cmp.{partial_order_from_own_ties};
     ghost use Rattle.std.specs.Cmp.Rules.{comparing};
@@ -127,7 +136,7 @@ impl PartialOrd for Text {
 
     ghost laws = { partial_order_from_own_ties (Prim.search (comparing, rules)) (Prim.search (comparing, rules)) };
 
-    fn partial_cmp(&self, other: &Text) -> Option<Ordering> {
+    fn partial_cmp(&self, other: &Text<N>) -> Option<Ordering> {
         Some(self.cmp(other))
     }
 }
