@@ -3,6 +3,8 @@ ghost use Rattle.std.specs.Prelude.{◌≡◌, ◌≢◌, ◌<◌, ℕ, slice_in
 ghost use Rattle.std.specs.List.{list_all};
 ghost use Rattle.amm_model.specs.Lines.{is_blank as blank};
 
+use memchr::memchr;
+
 const NEWLINE: u8 = b'\n';
 
 /// Where the first newline stands.
@@ -11,7 +13,7 @@ pub(crate) fn newline_at(bytes: &[u8]) -> Option<usize>
     ensures first { IfSome result (λ at. (k : ℕ) → k < at → slice_index bytes.now k ≢ 10) }
     ensures none { IfNone result ((k : ℕ) → k < length bytes.now → slice_index bytes.now k ≢ 10) }
 {
-    bytes.iter().position(|byte| *byte == NEWLINE)
+    memchr(NEWLINE, bytes)
 }
 
 fn is_blank(byte: u8) -> bool
