@@ -13,10 +13,10 @@ ghost use Rattle.amm_engine.specs.Service.{AnswersLine, ServesAll, ServesEnded, 
 
 use crate::Status;
 use crate::line::{run, write_reply};
-use amm_command::read_line;
+use amm_command::LineReader;
 use amm_io::{IoEnd, Lines, Sink, Source, WriteEnd, write_all};
 use amm_model::{Answer, Command, Fault, Line, Memory, Refusal};
-use amm_state::{Book, State};
+use amm_state::{Book, Seed, State};
 use std::alloc::Global;
 use std::marker::Model;
 
@@ -28,6 +28,7 @@ const INPUT_LIMIT: u64 = 1073741824;
 pub struct Engine {
     // It is away only while a line is answered.
     state: Option<State>,
+    reader: LineReader,
 }
 
 impl Model for Engine {
@@ -50,8 +51,16 @@ impl Engine {
     pub fn new(alloc: Global) -> Result<Engine, Memory>
         ensures { IfOk result (λ engine. engine ≡ opening_ledger) }
     {
+        Engine::with_seed(alloc, Seed::FIXED)
+    }
+
+    /// The same, whose tables hash from a seed.
+    pub fn with_seed(alloc: Global, seed: Seed) -> Result<Engine, Memory>
+        ensures { IfOk result (λ engine. engine ≡ opening_ledger) }
+    {
         Ok(Engine {
-            state: Some(State::new(alloc)?),
+            state: Some(State::with_seed(alloc, seed)?),
+            reader: LineReader::new(alloc)?,
         })
     }
 
@@ -106,7 +115,7 @@ impl Engine {
         ensures ok { OnOk result (AnswersLine self.old number (Whole bytes.now) text.new.items self.new) }
         ensures err { OnErr result (self.new ≡ self.old) }
     {
-        match read_line(alloc, bytes) {
+        match self.reader.read(alloc, bytes) {
             Ok(command) => self.answer_command(alloc, number, &command, text),
             Err(Fault::Refused(why)) => write_reply(text, number, Answer::Refused(why)),
             Err(Fault::Memory) => Err(Memory),

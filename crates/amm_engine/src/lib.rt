@@ -8,5 +8,6 @@ mod engine;
 mod line;
 mod status;
 
+pub use amm_state::Seed;
 pub use engine::Engine;
 pub use status::Status;

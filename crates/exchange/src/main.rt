@@ -8,9 +8,10 @@ mod tests;
 mod top;
 mod words;
 
-use amm_engine::Status;
+use amm_engine::{Seed, Status};
 use amm_io::{StdSink, StdSource};
 use std::process::ExitCode;
+use std::random::RandomSource;
 use std::{env, io};
 pub use top::exchange;
 
@@ -38,6 +39,16 @@ fn words_of(rt: &HostRuntime) -> Result<Vec<String>, Status> {
     }
 }
 
+/// A number that nobody foresees, so that nobody can choose names that collide. Where the system gives none it is a fixed one, which costs no
+/// more than time.
+fn seed(rt: &HostRuntime) -> Seed {
+    let mut bytes = [0; 8];
+    match rt.fill_bytes(&mut bytes) {
+        Ok(()) => Seed::new(u64::from_le_bytes(bytes)),
+        Err(_) => Seed::FIXED,
+    }
+}
+
 fn status_of(rt: &HostRuntime) -> Status {
     let words = match words_of(rt) {
         Ok(words) => words,
@@ -45,7 +56,13 @@ fn status_of(rt: &HostRuntime) -> Status {
     };
     let mut source = StdSource::new(rt.stdin());
     let mut sink = StdSink::new(rt.stdout());
-    exchange(rt.alloc(), words.as_slice(), &mut source, &mut sink)
+    exchange(
+        rt.alloc(),
+        seed(rt),
+        words.as_slice(),
+        &mut source,
+        &mut sink,
+    )
 }
 
 fn main(rt: HostRuntime) -> ExitCode {

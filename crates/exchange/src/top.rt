@@ -9,13 +9,15 @@ ghost use Rattle.exchange.specs.Words.{Asks};
 ghost use Rattle.exchange.specs.Headline.{RepliesToAll};
 
 use crate::words::{Request, request_of};
-use amm_engine::{Engine, Status};
+use amm_engine::{Engine, Seed, Status};
 use amm_io::{Sink, Source};
 use std::alloc::Global;
 
-/// Does all that the program does: with the one word `run` it answers the lines of the source on the sink.
+/// Does all that the program does: with the one word `run` it answers the lines of the source on the sink. No clause speaks of
+/// the seed: it decides only where names lie in the tables.
 pub fn exchange<S: Source, K: Sink>(
     alloc: Global,
+    seed: Seed,
     words: &[String],
     source: &mut S,
     sink: &mut K,
@@ -47,14 +49,14 @@ pub fn exchange<S: Source, K: Sink>(
         ((input : List ℕ) × (S.left source.old ≡ Some input) × (length input ≤ 1073741824)) → (result ≡ Status.Done) ⊎ (result ≡ Status.Memory) }
 {
     match request_of(words) {
-        Some(Request::Run) => run(alloc, source, sink),
+        Some(Request::Run) => run(alloc, seed, source, sink),
         Some(Request::Check | Request::Work { .. }) => Status::Usage,
         None => Status::Usage,
     }
 }
 
 /// Answers the lines of the source from the opening ledger on.
-fn run<S: Source, K: Sink>(alloc: Global, source: &mut S, sink: &mut K) -> Status
+fn run<S: Source, K: Sink>(alloc: Global, seed: Seed, source: &mut S, sink: &mut K) -> Status
     ensures done { result ≡ Status.Done → (final : Ledger) ×
         ServesAll 1073741824 (S.left source.old) (S.left source.new) (K.written sink.old) (K.written sink.new) opening_ledger final }
     ensures ended { result ≡ Status.ReadFault → (final : Ledger) ×
@@ -69,7 +71,7 @@ fn run<S: Source, K: Sink>(alloc: Global, source: &mut S, sink: &mut K) -> Statu
     ensures read_fault { HasCause (S.faults source.old) (S.faults source.new) (result ≡ Status.ReadFault) }
     ensures write_fault { HasCause (K.faults sink.old) (K.faults sink.new) (result ≡ Status.WriteFault) }
 {
-    let Ok(mut engine) = Engine::new(alloc) else {
+    let Ok(mut engine) = Engine::with_seed(alloc, seed) else {
         return Status::Memory;
     };
     engine.serve(alloc, source, sink)

@@ -1,7 +1,7 @@
 //! Reads and writes that fail, at each call in turn.
 use super::session::words;
 use crate::exchange;
-use amm_engine::Status;
+use amm_engine::{Seed, Status};
 use amm_io::{MemSink, MemSource, SureSink, SureSource};
 use std::test::Fail;
 
@@ -57,7 +57,13 @@ fn writes_whole_replies_up_to_a_failed_write(rt: HostRuntime) -> Result<(), Fail
     for j in 0..6usize {
         let mut source = SureSource::new(lines(&rt)?);
         let mut sink = MemSink::new(rt.alloc(), vec![in rt.alloc(); j as u64]?);
-        let status = exchange(rt.alloc(), words.as_slice(), &mut source, &mut sink);
+        let status = exchange(
+            rt.alloc(),
+            Seed::FIXED,
+            words.as_slice(),
+            &mut source,
+            &mut sink,
+        );
         assert_eq!(rt; status, Status::WriteFault);
         let written = replies(&rt, j)?;
         assert_eq!(rt; sink.bytes(), written.as_slice());
@@ -79,7 +85,13 @@ fn answers_the_lines_ended_before_a_failed_read(rt: HostRuntime) -> Result<(), F
         }
         let mut source = MemSource::new(input, 7, vec![in rt.alloc(); j as u64]?);
         let mut sink = SureSink::new(rt.alloc());
-        let status = exchange(rt.alloc(), words.as_slice(), &mut source, &mut sink);
+        let status = exchange(
+            rt.alloc(),
+            Seed::FIXED,
+            words.as_slice(),
+            &mut source,
+            &mut sink,
+        );
         assert_eq!(rt; status, Status::ReadFault);
         let written = replies(&rt, ended)?;
         assert_eq!(rt; sink.bytes(), written.as_slice());

@@ -1,6 +1,6 @@
 //! How a test runs the program: lines in, replies out.
 use crate::exchange;
-use amm_engine::Status;
+use amm_engine::{Seed, Status};
 use amm_io::{SureSink, SureSource};
 use std::test::Fail;
 
@@ -34,7 +34,13 @@ pub fn is_run(rt: &HostRuntime, input: Vec<u8>, output: &[u8]) -> Result<bool, F
     let words = words(rt, "run")?;
     let mut source = SureSource::new(input);
     let mut sink = SureSink::new(rt.alloc());
-    let status = exchange(rt.alloc(), words.as_slice(), &mut source, &mut sink);
+    let status = exchange(
+        rt.alloc(),
+        Seed::FIXED,
+        words.as_slice(),
+        &mut source,
+        &mut sink,
+    );
     Ok(status == Status::Done && sink.bytes() == output)
 }
 
