@@ -1,33 +1,27 @@
 -- A journal after one more change, and after one is undone.
-use Rattle.std.proofs.Common.{◌≡◌, ℕ, ◌≤◌, Bool, true, false, cond, Some, List, [], ◌∷◌, ◌||◌, refl, sym, ap, subst, ◌∙◌, arith}
-use Rattle.std.specs.Option.{unwrap_or}
+use Rattle.std.proofs.Common.{◌≡◌, ℕ, ◌+◌, ◌-◌, ◌≤◌, Bool, true, false, cond, Some, List, [], ◌∷◌, ◌||◌, refl, sym, ap, subst, ◌∙◌, arith}
 use Rattle.std.specs.Cmp.{eq_by_cmp_equiv, Equal-is}
 use Rattle.std.specs.FinMap as map
 use Rattle.std.specs.FinSet as set
 use Rattle.amm_names.specs.declared.holder.Holder.{Holder}
 use Rattle.amm_names.specs.declared.holder.Asset.{Asset}
 use Rattle.amm_names.specs.Order.{asset_cmp, same_asset, same_holder}
-use Rattle.amm_model.specs.Ledger.{Ledger, HoldingsByAsset, Pairs, pair_of, set_pair, balance, total, total_limit, set_balance}
+use Rattle.amm_model.specs.Ledger.{Ledger, Pairs, pair_of, set_pair, balance, total, total_limit, set_balance}
 use Rattle.amm_names.proofs.OrderLemmas.{asset_total, asset_antisymmetric, holder_total}
-use Rattle.amm_model.proofs.LedgerLemmas.{total-set_balance, balance_within_total, balance-set_here}
+use Rattle.amm_model.proofs.LedgerLemmas.{total-set_balance, balance_within_total, balance-set_here, set_balance-back}
 use Rattle.amm_state.specs.declared.journal.Undo.{Undo}
 use Rattle.amm_state.specs.declared.journal.Undo.TheVariants.{Balance, Token, NewPair, Pair, FeeTo, Setter, Time}
 use Rattle.amm_state.specs.Rows.{Holders}
-use Rattle.amm_state.specs.Book.{Rows, BookView, holders_at, has_row, with_balance, with_ledger, with_pairs, IsUndone}
+use Rattle.amm_state.specs.Assets.{Rows, holders_at, has_row}
+use Rattle.amm_state.specs.Book.{BookView, with_balance, with_ledger, with_pairs}
 use Rattle.amm_model.specs.declared.pair.PairRecord.{PairRecord}
+use Rattle.amm_state.proofs.AssetLemmas.{holders_at-insert}
 use Rattle.amm_state.proofs.BookLemmas.{set_pair-back}
+use Rattle.amm_state.proofs.Canonical.{canonical-set_balance}
 use Rattle.amm_state.specs.Journal.{undo, undo_all, StaysWithin, HasRows, IsRevertible, IsStart}
 
 abbrev pub add_row : Rows → Asset → Holder → Rows
 add_row rows a h = map.insert rows a (set.insert (holders_at rows a) h)
-
-holders_at-insert : (rows : Rows) (a : Asset) (hs : Holders) (q : Asset) → holders_at (map.insert rows a hs) q ≡ cond (same_asset q a) hs (holders_at rows q)
-unfolding holders_at
-holders_at-insert rows a hs q = rw (map.get-insert asset_total rows a hs q) (at (same_asset q a))
-  where
-    at : (b : Bool) → unwrap_or (cond b (Some hs) (map.get rows q)) set.empty ≡ cond b hs (unwrap_or (map.get rows q) set.empty)
-    at true = refl
-    at false = refl
 
 has_row-add_row : (rows : Rows) (a : Asset) (h : Holder) (q : Asset) (p : Holder) → has_row (add_row rows a h) q p ≡ cond (same_asset q a) (same_holder p h || has_row rows a p) (has_row rows q p)
 has_row-add_row rows a h q p = ap (λ (hs : Holders). set.contains hs p) (holders_at-insert rows a _ q) ∙ at (same_asset q a)
@@ -63,49 +57,62 @@ HasRows-kept (Setter user ∷ changes) rows a h all = HasRows-kept changes rows 
 HasRows-kept (Time time ∷ changes) rows a h all = HasRows-kept changes rows a h all
 
 -- one more balance was changed
-pub balance_noted : (changes : List Undo) (book : BookView) (a : Asset) (h : Holder) (n : ℕ)
-    → set_balance (set_balance book.ledger a h n) a h (balance book.ledger a h) ≡ book.ledger → total book.ledger a ≤ total_limit
-    → IsRevertible changes book → IsRevertible (Balance a h (balance book.ledger a h) ∷ changes) (with_balance book a h n)
-balance_noted changes book a h n back limit r =
-    let l : Ledger = book.ledger in
-    let m : Ledger = set_balance l a h n in
-    let sums = total-set_balance l a h n in
-    let here = balance-set_here l a h n in
-    let whole = balance_within_total l a h in
-    record {
-      within = (omega arith, subst (StaysWithin changes) (sym back) r.within);
-      rows = (has_row-added book.rows a h, HasRows-kept changes book.rows a h r.rows);
-      start = subst (λ (x : Ledger). IsStart (undo_all changes x)) (sym back) r.start;
-    }
+module _ (changes noted : List Undo) (book new : BookView) (a : Asset) (h : Holder) (n before : ℕ) (is : noted ≡ Balance a h before ∷ changes)
+    (was : before ≡ balance book.ledger a h) (next : new ≡ with_balance book a h n) (r : IsRevertible changes book) where
+  back : set_balance (set_balance book.ledger a h n) a h (balance book.ledger a h) ≡ book.ledger
+  back = set_balance-back book.ledger a h n r.canonical.assets (r.canonical.amounts a)
 
--- a balance was restored
-pub balance_restored : (changes : List Undo) (book : BookView) (a : Asset) (h : Holder) (n : ℕ) → IsRevertible (Balance a h n ∷ changes) book → IsRevertible changes (with_balance book a h n)
-balance_restored changes book a h n r = record { within = r.within.1; rows = HasRows-kept changes book.rows a h r.rows.1; start = r.start }
+  all : noted ≡ Balance a h (balance book.ledger a h) ∷ changes
+  all = is ∙ ap (λ (k : ℕ). Balance a h k ∷ changes) was
 
--- one more balance was changed, as a transaction notes it
-pub balance_changed : (changes noted : List Undo) (book new : BookView) (a : Asset) (h : Holder) (n before : ℕ) (change : Undo)
-    → noted ≡ change ∷ changes → change ≡ Balance a h before → before ≡ balance book.ledger a h → new ≡ with_balance book a h n
-    → IsUndone book.ledger.holdings a h n → total book.ledger a ≤ total_limit
-    → IsRevertible changes book → IsRevertible noted new
-balance_changed changes noted book new a h n before change is what was next back limit r =
-    let all : noted ≡ Balance a h (balance book.ledger a h) ∷ changes = is ∙ ap (λ (e : Undo). e ∷ changes) (what ∙ ap (Balance a h) was) in
-    rw (all, next) (balance_noted changes book a h n (ap (λ (x : HoldingsByAsset). record book.ledger { holdings = x }) back) limit r)
+  pub balance_leads_back : undo_all noted new.ledger ≡ undo_all changes book.ledger
+  balance_leads_back = rw (all, next) (ap (undo_all changes) back)
 
--- one more pair was changed, as a transaction notes it
-module _ (changes noted : List Undo) (book new : BookView) (pool : List ℕ) (old pair : PairRecord) (change : Undo) (is : noted ≡ change ∷ changes) (what : change ≡ Pair pool old)
+  pub balance_changed : total book.ledger a ≤ total_limit → IsRevertible noted new
+  balance_changed limit =
+      let l : Ledger = book.ledger in
+      let sums = total-set_balance l a h n in
+      let here = balance-set_here l a h n in
+      let whole = balance_within_total l a h in
+      rw (all, next) record {
+        within = (omega arith, subst (StaysWithin changes) (sym back) r.within);
+        rows = (has_row-added book.rows a h, HasRows-kept changes book.rows a h r.rows);
+        start = subst (λ (x : Ledger). IsStart (undo_all changes x)) (sym back) r.start;
+        canonical = canonical-set_balance l a h n r.canonical;
+      }
+
+-- units were moved: two more balances were changed
+module _ (changes noted : List Undo) (book new : BookView) (a : Asset) (f t : Holder) (n sender receiver : ℕ) (is : noted ≡ Balance a t receiver ∷ Balance a f sender ∷ changes)
+    (had : sender ≡ balance book.ledger a f) (got : receiver ≡ balance (set_balance book.ledger a f (sender - n)) a t)
+    (next : new ≡ with_balance (with_balance book a f (sender - n)) a t (receiver + n)) (r : IsRevertible changes book) (limit : total book.ledger a ≤ total_limit) where
+  abbrev less : BookView
+  less = with_balance book a f (sender - n)
+
+  taken_back : IsRevertible (Balance a f sender ∷ changes) less
+  taken_back = balance_changed changes _ book less a f (sender - n) sender refl had refl r limit
+
+  pub move_leads_back : undo_all noted new.ledger ≡ undo_all changes book.ledger
+  move_leads_back = balance_leads_back (Balance a f sender ∷ changes) noted less new a t (receiver + n) receiver is got next taken_back
+      ∙ balance_leads_back changes _ book less a f (sender - n) sender refl had refl r
+
+  pub move_changed : IsRevertible noted new
+  move_changed =
+      let sums = total-set_balance book.ledger a f (sender - n) in
+      balance_changed (Balance a f sender ∷ changes) noted less new a t (receiver + n) receiver is got next taken_back (omega arith)
+
+-- one more pair was changed
+module _ (changes noted : List Undo) (book new : BookView) (pool : List ℕ) (old pair : PairRecord) (is : noted ≡ Pair pool old ∷ changes)
     (was : pair_of book.ledger.pairs pool ≡ Some old) (next : new ≡ with_ledger book (with_pairs book.ledger (set_pair book.ledger.pairs pool pair))) where
-  back : undo (Pair pool old) (record book.ledger { pairs = set_pair book.ledger.pairs pool pair }) ≡ book.ledger
-  back = ap (λ (k : Pairs). record book.ledger { pairs = k }) (set_pair-back book.ledger.pairs pool old pair was)
-
-  all : noted ≡ Pair pool old ∷ changes
-  all = is ∙ ap (λ (e : Undo). e ∷ changes) what
+  pair_back : undo (Pair pool old) (record book.ledger { pairs = set_pair book.ledger.pairs pool pair }) ≡ book.ledger
+  pair_back = ap (λ (k : Pairs). record book.ledger { pairs = k }) (set_pair-back book.ledger.pairs pool old pair was)
 
   pub pair_leads_back : undo_all noted new.ledger ≡ undo_all changes book.ledger
-  pair_leads_back = rw (all, next) (ap (undo_all changes) back)
+  pair_leads_back = rw (is, next) (ap (undo_all changes) pair_back)
 
   pub pair_changed : IsRevertible changes book → IsRevertible noted new
-  pair_changed r = rw (all, next) record {
-    within = subst (StaysWithin changes) (sym back) r.within;
+  pair_changed r = rw (is, next) record {
+    within = subst (StaysWithin changes) (sym pair_back) r.within;
     rows = r.rows;
-    start = subst (λ (x : Ledger). IsStart (undo_all changes x)) (sym back) r.start;
+    start = subst (λ (x : Ledger). IsStart (undo_all changes x)) (sym pair_back) r.start;
+    canonical = record { amounts = r.canonical.amounts; assets = r.canonical.assets };
   }

@@ -1,5 +1,5 @@
 -- What a table's rows give at a holder.
-use Rattle.std.proofs.Common.{◌≡◌, ℕ, ◌+◌, ◌-◌, ◌≤◌, Bool, true, false, cond, List, [], ◌∷◌, Option, Some, is_some, ◌||◌, refl, sym, ap, ◌∙◌, arith}
+use Rattle.std.proofs.Common.{◌≡◌, ℕ, ◌+◌, Bool, true, false, cond, List, [], ◌∷◌, Option, Some, is_some, ◌||◌, refl, sym, ap, ◌∙◌, arith}
 use Rattle.std.specs.Option.{unwrap_or}
 use Rattle.std.specs.Map.{lookup}
 use Rattle.std.specs.Cmp.{eq_by_cmp_equiv}
@@ -8,7 +8,7 @@ use Rattle.amm_names.specs.contracts.holder.HolderPartialEq.TheImpl as holder_is
 use Rattle.amm_names.specs.Order.{same_holder}
 use Rattle.amm_model.specs.Ledger.{amount, set_amount, sum_held}
 use Rattle.amm_names.proofs.OrderLemmas.{holder_eq, holder_total}
-use Rattle.amm_model.proofs.LedgerLemmas.{amount-set_amount, amount-empty, IsTidy, IsTidy-empty, IsTidy-set_amount, same_held, amount_within_sum, sum_held-set_amount}
+use Rattle.amm_model.proofs.LedgerLemmas.{amount-set_amount, amount-empty, IsTidy, IsTidy-empty, IsTidy-set_amount, same_held, sum_held-set_amount}
 use Rattle.std.specs.FinSet as set
 use Rattle.amm_names.specs.Order.{holder_cmp}
 use Rattle.amm_names.proofs.OrderLemmas.{holder_antisymmetric}
@@ -78,11 +78,12 @@ pub table_of-updated : (old new : List (Holder × ℕ)) (h : Holder) (n : ℕ)
     → ((q : Holder) → lookup (eq q) new ≡ cond (eq h q) (Some n) (lookup (eq q) old)) → table_of new ≡ with_row (table_of old) h n
 table_of-updated old new h n updates = λ i. record { held = held_of-updated old new h n updates i; rows = holders_of-updated old new h n updates i }
 
--- the total after a change at one holder
-pub total-with_row : (old new : AssetTable) (h : Holder) (n total was : ℕ) → total ≡ sum_held old.held → was ≡ amount old.held h → new ≡ with_row old h n → total - was + n ≡ sum_held new.held
-total-with_row old new h n total was e f g =
-    let changed : sum_held new.held ≡ sum_held (set_amount old.held h n) = ap (λ (t : AssetTable). sum_held t.held) g in
-    omega (arith, amount_within_sum old.held h, sum_held-set_amount old.held h n)
+-- the amount of a holder, as a look-up found it
+pub found_amount : (rows : List (Holder × ℕ)) (q : Holder) (o : Option ℕ) → o ≡ lookup (eq q) rows → unwrap_or o 0 ≡ amount (held_of rows) q
+found_amount rows q o is = ap (λ x. unwrap_or x 0) is ∙ sym (amount-held_of rows q)
 
-pub was_within : (table : AssetTable) (h : Holder) (total was : ℕ) → total ≡ sum_held table.held → was ≡ amount table.held h → was ≤ total
-was_within table h total was e f = omega (arith, amount_within_sum table.held h)
+-- the total after a change at one holder
+pub sums-with_row : (old new : AssetTable) (h : Holder) (n was : ℕ) → was ≡ amount old.held h → new ≡ with_row old h n → sum_held new.held + was ≡ sum_held old.held + n
+sums-with_row old new h n was e f =
+    let changed : sum_held new.held ≡ sum_held (set_amount old.held h n) = ap (λ (t : AssetTable). sum_held t.held) f in
+    omega (arith, sum_held-set_amount old.held h n)

@@ -1,15 +1,26 @@
 -- What a journal says of the ledger that it leads back to.
-use Rattle.std.specs.Prelude.{◌+◌, ◌-◌, ◌≤◌, List, [], ◌∷◌, take, length, IsTrue}
-use Rattle.amm_model.specs.Ledger.{Ledger, balance, total, total_limit, set_balance, set_pair, with_fee_to, with_setter}
+use Rattle.std.specs.Prelude.{ℕ, ◌+◌, ◌-◌, ◌≤◌, List, [], ◌∷◌, take, length, IsTrue, refl}
+use Rattle.amm_model.specs.Ledger.{Ledger, holdings_of, balance, total, total_limit, set_balance, set_pair, with_fee_to, with_setter}
+use Rattle.amm_model.proofs.LedgerLemmas.{IsTidy, IsTidyByAsset}
 use Rattle.amm_state.specs.declared.journal.Undo.{Undo}
 use Rattle.amm_state.specs.declared.journal.Undo.TheVariants.{Balance, Token, NewPair, Pair, FeeTo, Setter, Time}
-use Rattle.amm_state.specs.Book.{Rows, BookView, has_row, without_token, with_pairs, with_time}
+use Rattle.amm_names.specs.declared.holder.Asset.{Asset}
+use Rattle.amm_state.specs.Assets.{Rows, has_row}
+use Rattle.amm_state.specs.Book.{BookView, without_token, with_pairs, with_time}
 use Rattle.amm_model.specs.Sound.{IsAtRest}
-use Rattle.std.specs.Coded.{Coded}
+use Rattle.std.specs.Coded.{Coded, code_by, coded×, coded_ℕ, coded_list}
 use Rattle.amm_state.specs.contracts.journal.Undo as undos
 
 abbrev pub undo_code : Coded Undo
 undo_code = undos.the_row.coded
+
+-- the changes that a journal has noted, the newest first, and how many more it has room for
+pub record Notes : Type 0 where
+  pub changes : List Undo
+  pub room : ℕ
+
+abbrev pub notes_code : Coded Notes
+notes_code = code_by (List Undo × ℕ) (coded× (coded_list undo_code) coded_ℕ) (λ n. (n.changes, n.room)) (λ p. record { changes = p.0; room = p.1 }) (λ _. refl)
 
 -- the ledger before a change
 abbrev pub undo : Undo → Ledger → Ledger
@@ -38,12 +49,18 @@ HasRows [] rows = Unit {0}
 HasRows (Balance asset holder n ∷ changes) rows = IsTrue (has_row rows asset holder) × HasRows changes rows
 HasRows (_ ∷ changes) rows = HasRows changes rows
 
+-- each holding of the ledger is of some units: two such ledgers with the same balances are the same
+pub record IsCanonical (ledger : Ledger) : Type 0 where
+  pub amounts : (asset : Asset) → IsTidy (holdings_of ledger.holdings asset)
+  pub assets : IsTidyByAsset ledger.holdings
+
 -- where a transaction can go back to: said by one word, so that the proofs of the steps do not look into it
 unfoldable pub IsStart : Ledger → Type 0
-IsStart ledger = IsAtRest ledger
+IsStart ledger = IsAtRest ledger × IsCanonical ledger
 
 -- the changes can be undone on the book with no memory, and lead to a ledger at rest
 pub record IsRevertible (changes : List Undo) (book : BookView) : Type 0 where
   pub within : StaysWithin changes book.ledger
   pub rows : HasRows changes book.rows
   pub start : IsStart (undo_all changes book.ledger)
+  pub canonical : IsCanonical book.ledger

@@ -1,11 +1,14 @@
 -- What the rows of a table mean.
-use Rattle.std.specs.Prelude.{ℕ, List, [], ◌∷◌, refl}
+use Rattle.std.specs.Prelude.{ℕ, List, [], ◌∷◌, ◌≡◌, refl}
 use Rattle.std.specs.Coded.{Coded, code_by, coded×}
 use Rattle.std.specs.FinMap as map
 use Rattle.std.specs.FinSet as set
 use Rattle.amm_names.specs.declared.holder.Holder.{Holder}
 use Rattle.amm_names.specs.contracts.holder.Holder as holder
 use Rattle.amm_names.specs.Order.{holder_cmp}
+use Rattle.amm_model.specs.declared.fault.Fault.{Fault}
+use Rattle.amm_model.specs.declared.fault.Fault.TheVariants as fault
+use Rattle.amm_model.specs.declared.fault.Refusal.{Refusal}
 use Rattle.amm_model.specs.Ledger.{Holdings, set_amount}
 use Rattle.amm_model.specs.Codes.{holdings_code}
 
@@ -43,3 +46,8 @@ empty_table = record { held = map.empty; rows = set.empty }
 -- the table with n units at the holder, which then has a row
 abbrev pub with_row : AssetTable → Holder → ℕ → AssetTable
 with_row table holder n = record { held = set_amount table.held holder n; rows = set.insert table.rows holder }
+
+-- a fault is this refusal, for this cause, or want of memory
+abbrev pub Because : Fault → Refusal → Type 0 → Type 0
+Because (fault.Refused why) code cause = (why ≡ code) × cause
+Because fault.Memory code cause = Unit {0}

@@ -1,25 +1,30 @@
 //! The tables of the ledger.
-ghost use Rattle.std.specs.Prelude.{◌≡◌, ◌+◌, ◌-◌, ◌<◌, ◌≤◌, ◌^◌, ◌++◌, ◌∷◌, [], true, false, take, OnOk, OnErr, IfOk, IsTrue, length, None, slice_get};
+ghost use Rattle.std.specs.Prelude.{◌≡◌, ◌+◌, ◌-◌, ◌<◌, ◌≤◌, ◌++◌, ◌∷◌, [], false, take, OnOk, OnErr, IfOk, IfErr, IsTrue, length, None, slice_get};
 ghost use Rattle.std.specs.FinMap as map;
-ghost use Rattle.amm_model.specs.Ledger.{amount, sum_held, holdings_of, balance, total, total_limit, is_listed, opening_ledger, pair_of, set_pair, zero_pair, with_fee_to, with_setter};
-ghost use Rattle.amm_state.specs.Book.{tables_of, rows_in, holdings_in, with_amount, with_balance, has_row, with_ledger, with_token, without_token, with_pairs, with_time, IsUndone};
+ghost use Rattle.amm_model.specs.declared.fault.Refusal.TheVariants as refusal;
+ghost use Rattle.amm_model.specs.Ledger.{balance, set_balance, total, total_limit, is_listed, opening_ledger, pair_of, set_pair, zero_pair, with_fee_to, with_setter};
+ghost use Rattle.amm_state.specs.Assets.{has_row};
+ghost use Rattle.amm_state.specs.Book.{with_balance, with_ledger, with_token, without_token, with_pairs, with_time};
+ghost use Rattle.amm_state.specs.Rows.{Because};
 ghost use Rattle.std.specs.List.{list_any};
 ghost use Rattle.std.specs.Map.{values_of};
 ghost use Rattle.std.specs.Map.Iter.{deref_pair};
 ghost use Rattle.std.specs.Option.{option_copied, option_map};
 
-use crate::rows::AssetRows;
-use amm_model::PairRecord;
+use crate::assets::Assets;
+use crate::rows::Before;
+use amm_model::{Fault, PairRecord};
 use amm_names::{Asset, Holder, Memory, PoolName, TokenName, UserName};
 use indexmap::{IndexMap, IndexSet};
 use std::alloc::Global;
 use std::marker::Model;
+use std::mem::replace;
 
 /// The tables of the ledger: who holds what, the listed tokens, the pairs, the protocol's settings and the time.
 /// Contracts see the ledger, and beside it which accounts have a row, which may say 0.
 #[derive(Drop)]
 pub struct Book {
-    assets: IndexMap<Asset, AssetRows>,
+    assets: Assets,
     tokens: IndexSet<TokenName>,
     pairs: IndexMap<PoolName, PairRecord>,
     fee_to: Holder,
@@ -29,65 +34,27 @@ pub struct Book {
 
 impl Model for Book {
     ghost use Rattle.std.specs.Prelude.{[]};
-    ghost use Rattle.amm_state.specs.Book.{BookView, book_code, holdings_in, rows_in};
+    ghost use Rattle.amm_state.specs.Book.{BookView, book_code};
 
     ghost Value = { BookView };
 
     ghost coded = { book_code };
 
-    ghost view = { λ book. record { ledger = record { holdings = holdings_in book.assets.entries; tokens = book.tokens.keys; pairs = book.pairs.entries; fee_to = book.fee_to; setter = book.setter; time = book.time; quotes = []; observations = [] }; rows = rows_in book.assets.entries } };
+    ghost view = { λ book. record { ledger = record { holdings = book.assets.holdings; tokens = book.tokens.keys; pairs = book.pairs.entries; fee_to = book.fee_to; setter = book.setter; time = book.time; quotes = []; observations = [] }; rows = book.assets.rows } };
 }
 
-/// The total of an asset, and what one holder has of it.
-#[derive(Clone, Copy, Drop)]
-pub(crate) struct Account {
-    pub total: u64,
-    pub amount: u64,
-}
-
-// Gives the holder n units of the asset in place of those that it has.
-fn put_amount(
-    assets: &mut IndexMap<Asset, AssetRows>,
-    alloc: Global,
-    asset: &Asset,
-    holder: &Holder,
-    before: u64,
-    n: u64,
-) -> Result<(), Memory>
-    requires before { before ≡ amount (holdings_of (holdings_in assets.old.entries) asset.now) holder.now }
-    requires limit { sum_held (holdings_of (holdings_in assets.old.entries) asset.now) - before + n ≤ total_limit }
-    ensures ok { OnOk result (tables_of assets.new.entries ≡ with_amount (tables_of assets.old.entries) asset.now holder.now n) }
-    ensures undone { OnOk result (IsUndone (holdings_in assets.old.entries) asset.now holder.now n) }
-    ensures err { OnErr result (tables_of assets.new.entries ≡ tables_of assets.old.entries) }
+// Writes the record of a pool, if it has a pair, and gives the one that stood there.
+fn replace_record(
+    pairs: &mut IndexMap<PoolName, PairRecord>,
+    pool: &PoolName,
+    pair: PairRecord,
+) -> Option<PairRecord>
+    ensures before { result ≡ pair_of pairs.old.entries pool.now }
+    ensures written { pairs.new.entries ≡ set_pair pairs.old.entries pool.now pair }
 {
-    if let Some(rows) = assets.get_mut(asset) {
-        return rows.set(holder, before, n);
-    }
-    let mut rows = AssetRows::new(alloc);
-    rows.set(holder, before, n)?;
-    match assets.insert(*asset, rows) {
-        Ok(_) => Ok(()),
-        Err(_) => Err(Memory),
-    }
-}
-
-// Gives a holder that has a row this amount of the asset.
-fn restore_amount(assets: &mut IndexMap<Asset, AssetRows>, asset: &Asset, holder: &Holder, n: u64)
-    requires row { IsTrue (has_row (rows_in assets.old.entries) asset.now holder.now) }
-    requires limit { sum_held (holdings_of (holdings_in assets.old.entries) asset.now) - amount (holdings_of (holdings_in assets.old.entries) asset.now) holder.now + n ≤ total_limit }
-    ensures { tables_of assets.new.entries ≡ with_amount (tables_of assets.old.entries) asset.now holder.now n }
-{
-    if let Some(rows) = assets.get_mut(asset) {
-        rows.restore(holder, n);
-    }
-}
-
-// Writes the record of a pool, if it has a pair.
-fn write_pair(pairs: &mut IndexMap<PoolName, PairRecord>, pool: &PoolName, pair: PairRecord)
-    ensures { pairs.new.entries ≡ set_pair pairs.old.entries pool.now pair }
-{
-    if let Some(record) = pairs.get_mut(pool) {
-        *record = pair;
+    match pairs.get_mut(pool) {
+        Some(record) => Some(replace(record, pair)),
+        None => None,
     }
 }
 
@@ -97,31 +64,12 @@ impl Book {
         ensures { result ≡ record { ledger = with_setter opening_ledger setter; rows = map.empty } }
     {
         Book {
-            assets: IndexMap::new(alloc),
+            assets: Assets::new(alloc),
             tokens: IndexSet::new(alloc),
             pairs: IndexMap::new(alloc),
             fee_to: Holder::Zero,
             setter,
             time: 0,
-        }
-    }
-
-    /// The total of the asset and what the holder has of it, by one look-up each.
-    pub(crate) fn account(&self, asset: &Asset, holder: &Holder) -> Account
-        ensures total { result.total ≡ total self.now.ledger asset.now }
-        ensures amount { result.amount ≡ balance self.now.ledger asset.now holder.now }
-        ensures limit { result.total ≤ total_limit }
-        ensures within { result.amount ≤ result.total }
-    {
-        match self.assets.get(asset) {
-            Some(rows) => Account {
-                total: rows.total(),
-                amount: rows.amount(holder),
-            },
-            None => Account {
-                total: 0,
-                amount: 0,
-            },
         }
     }
 
@@ -131,7 +79,7 @@ impl Book {
         ensures within { result ≤ total self.now.ledger asset.now }
         ensures limit { result ≤ total_limit }
     {
-        self.account(asset, holder).amount
+        self.assets.amount(asset, holder)
     }
 
     /// What all holders have of the asset.
@@ -139,10 +87,7 @@ impl Book {
         ensures sum { result ≡ total self.now.ledger asset.now }
         ensures limit { result ≤ total_limit }
     {
-        match self.assets.get(asset) {
-            Some(rows) => rows.total(),
-            None => 0,
-        }
+        self.assets.total(asset)
     }
 
     /// Whether the token is listed.
@@ -208,22 +153,55 @@ impl Book {
         self.time
     }
 
-    /// Gives the holder n units of the asset in place of those that it has.
-    pub(crate) fn set_balance(
+    /// Adds n units of the asset at a holder, and gives what it had. `TotalLimit` exactly where the total would be above
+    /// 2^52-1.
+    pub(crate) fn issue(
         &mut self,
         alloc: Global,
         asset: &Asset,
-        holder: &Holder,
-        before: u64,
+        to: &Holder,
         n: u64,
-    ) -> Result<(), Memory>
-        requires before { before ≡ balance self.old.ledger asset.now holder.now }
-        requires limit { total self.old.ledger asset.now - before + n ≤ total_limit }
-        ensures ok { OnOk result (self.new ≡ with_balance self.old asset.now holder.now n) }
-        ensures undone { OnOk result (IsUndone self.old.ledger.holdings asset.now holder.now n) }
+    ) -> Result<u64, Fault>
+        ensures before { IfOk result (λ before. before ≡ balance self.old.ledger asset.now to.now) }
+        ensures limit { OnOk result (total self.old.ledger asset.now + n ≤ total_limit) }
+        ensures ok { IfOk result (λ before. self.new ≡ with_balance self.old asset.now to.now (before + n)) }
+        ensures fault { IfErr result (λ fault. Because fault refusal.TotalLimit (total_limit < total self.old.ledger asset.now + n)) }
         ensures err { OnErr result (self.new ≡ self.old) }
     {
-        put_amount(&mut self.assets, alloc, asset, holder, before, n)
+        self.assets.issue(alloc, asset, to, n)
+    }
+
+    /// Takes n units of the asset from a holder, and gives what it had. `Funds` exactly where it has fewer.
+    pub(crate) fn retire(&mut self, asset: &Asset, from: &Holder, n: u64) -> Result<u64, Fault>
+        requires { 0 < n }
+        ensures before { IfOk result (λ before. before ≡ balance self.old.ledger asset.now from.now) }
+        ensures funds { IfOk result (λ before. n ≤ before) }
+        ensures limit { OnOk result (total self.old.ledger asset.now ≤ total_limit) }
+        ensures ok { IfOk result (λ before. self.new ≡ with_balance self.old asset.now from.now (before - n)) }
+        ensures fault { IfErr result (λ fault. Because fault refusal.Funds (balance self.old.ledger asset.now from.now < n)) }
+        ensures err { OnErr result (self.new ≡ self.old) }
+    {
+        self.assets.retire(asset, from, n)
+    }
+
+    /// Moves n units of the asset, and gives what the two had before. `Funds` exactly where the sender has fewer.
+    pub(crate) fn move_units(
+        &mut self,
+        asset: &Asset,
+        from: &Holder,
+        to: &Holder,
+        n: u64,
+    ) -> Result<Before, Fault>
+        requires { 0 < n }
+        ensures sender { IfOk result (λ before. before.sender ≡ balance self.old.ledger asset.now from.now) }
+        ensures funds { IfOk result (λ before. n ≤ before.sender) }
+        ensures receiver { IfOk result (λ before. before.receiver ≡ balance (set_balance self.old.ledger asset.now from.now (before.sender - n)) asset.now to.now) }
+        ensures limit { OnOk result (total self.old.ledger asset.now ≤ total_limit) }
+        ensures ok { IfOk result (λ before. self.new ≡ with_balance (with_balance self.old asset.now from.now (before.sender - n)) asset.now to.now (before.receiver + n)) }
+        ensures fault { IfErr result (λ fault. Because fault refusal.Funds (balance self.old.ledger asset.now from.now < n)) }
+        ensures err { OnErr result (self.new ≡ self.old) }
+    {
+        self.assets.move_units(asset, from, to, n)
     }
 
     /// Gives a holder that has a row this amount of the asset.
@@ -232,7 +210,7 @@ impl Book {
         requires limit { total self.old.ledger asset.now - balance self.old.ledger asset.now holder.now + n ≤ total_limit }
         ensures { self.new ≡ with_balance self.old asset.now holder.now n }
     {
-        restore_amount(&mut self.assets, asset, holder, n)
+        self.assets.restore(asset, holder, n);
     }
 
     /// Lists the token last.
@@ -282,11 +260,12 @@ impl Book {
         let _ = self.pairs.pop();
     }
 
-    /// Writes the record of a pool, if it has a pair.
-    pub(crate) fn set_pair(&mut self, pool: &PoolName, pair: PairRecord)
-        ensures { self.new ≡ with_ledger self.old (with_pairs self.old.ledger (set_pair self.old.ledger.pairs pool.now pair)) }
+    /// Writes the record of a pool, if it has a pair, and gives the one that stood there.
+    pub(crate) fn replace_pair(&mut self, pool: &PoolName, pair: PairRecord) -> Option<PairRecord>
+        ensures before { result ≡ pair_of self.old.ledger.pairs pool.now }
+        ensures written { self.new ≡ with_ledger self.old (with_pairs self.old.ledger (set_pair self.old.ledger.pairs pool.now pair)) }
     {
-        write_pair(&mut self.pairs, pool, pair);
+        replace_record(&mut self.pairs, pool, pair)
     }
 
     pub(crate) fn set_fee_to(&mut self, to: Holder)

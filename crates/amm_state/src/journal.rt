@@ -1,5 +1,5 @@
 //! What a transaction replaced, the newest first.
-ghost use Rattle.std.specs.Prelude.{◌≡◌, [], ◌∷◌, OnOk, OnErr, IfSome, IfNone};
+ghost use Rattle.std.specs.Prelude.{◌≡◌, ◌-◌, ◌<◌, ◌≤◌, [], ◌∷◌, OnOk, OnErr, IfSome, IfNone};
 
 use amm_model::PairRecord;
 use amm_names::{Asset, Holder, Memory, PoolName, UserName};
@@ -42,35 +42,48 @@ pub struct Journal {
 }
 
 impl Model for Journal {
-    ghost use Rattle.std.specs.Prelude.{List, reverse};
-    ghost use Rattle.amm_state.specs.declared.journal.Undo.{Undo};
+    ghost use Rattle.std.specs.Prelude.{◌-◌, reverse, length};
+    ghost use Rattle.amm_state.specs.Journal.{Notes, notes_code};
 
-    ghost Value = { List Undo };
+    ghost Value = { Notes };
 
-    ghost view = { λ journal. reverse journal.entries.items };
+    ghost coded = { notes_code };
+
+    ghost view = { λ journal. record { changes = reverse journal.entries.items; room = journal.entries.cap - journal.entries.len } };
 }
 
 impl Journal {
     pub fn new(alloc: Global) -> Journal
-        ensures { result ≡ [] }
+        ensures { result.changes ≡ [] }
     {
         Journal {
             entries: Vec::new(alloc),
         }
     }
 
-    pub fn push(&mut self, undo: Undo) -> Result<(), Memory>
-        ensures ok { OnOk result (self.new ≡ undo ∷ self.old) }
-        ensures err { OnErr result (self.new ≡ self.old) }
+    /// Makes room for n more changes, so that noting them cannot fail once they are made.
+    pub fn reserve(&mut self, n: usize) -> Result<(), Memory>
+        ensures room { OnOk result (n ≤ self.new.room) }
+        ensures same { self.new.changes ≡ self.old.changes }
     {
-        self.entries.push(Entry { undo })?;
+        self.entries.reserve(n)?;
         Ok(())
     }
 
+    /// Notes a change, for which there is room.
+    pub fn note(&mut self, undo: Undo)
+        requires { 0 < self.old.room }
+        ensures noted { self.new.changes ≡ undo ∷ self.old.changes }
+        ensures room { self.new.room ≡ self.old.room - 1 }
+    {
+        self.entries.push_reserved(Entry { undo });
+    }
+
+    /// Takes the newest change out.
     pub fn pop(&mut self) -> Option<Undo>
-        ensures some { IfSome result (λ undo. self.old ≡ undo ∷ self.new) }
-        ensures none { IfNone result (self.old ≡ []) }
-        ensures left { IfNone result (self.new ≡ []) }
+        ensures some { IfSome result (λ undo. self.old.changes ≡ undo ∷ self.new.changes) }
+        ensures none { IfNone result (self.old.changes ≡ []) }
+        ensures left { IfNone result (self.new.changes ≡ []) }
     {
         match self.entries.pop() {
             Some(entry) => Some(entry.undo),
@@ -80,7 +93,7 @@ impl Journal {
 
     /// Forgets all changes, and keeps the room for the next ones.
     pub fn clear(&mut self)
-        ensures { self.new ≡ [] }
+        ensures { self.new.changes ≡ [] }
     {
         self.entries.clear();
     }

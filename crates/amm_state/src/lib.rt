@@ -5,6 +5,7 @@
 //! ledger, or in `rollback`, which gives back the opening one whatever happened. After a fault only `rollback` helps.
 #![tactic(auto)]
 
+mod assets;
 mod book;
 mod journal;
 mod mark;

@@ -1,13 +1,19 @@
 //! What each holder has of one asset.
-ghost use Rattle.std.specs.Prelude.{◌≡◌, ◌+◌, ◌-◌, ◌<◌, ◌≤◌, ◌^◌, OnOk, OnErr, IfOk, IsTrue, false};
+ghost use Rattle.std.specs.Prelude.{◌≡◌, ◌+◌, ◌-◌, ◌<◌, ◌≤◌, ◌^◌, OnOk, OnErr, IfOk, IfErr, IfSome, IfNone, IsOk, IsTrue, is_some};
 ghost use Rattle.std.specs.FinSet as set;
-ghost use Rattle.amm_model.specs.Ledger.{amount, set_amount, sum_held, total_limit};
-ghost use Rattle.amm_state.specs.Rows.{table_of, empty_table, with_row};
+ghost use Rattle.indexmap.specs.IndexMap.{spare};
+ghost use Rattle.amm_model.specs.declared.fault.Refusal.TheVariants as refusal;
+ghost use Rattle.amm_model.specs.Ledger.{amount, sum_held, total_limit};
+ghost use Rattle.amm_state.specs.Rows.{table_of, empty_table, with_row, Because};
 
+use amm_model::{Fault, Refusal};
 use amm_names::{Holder, Memory};
 use indexmap::IndexMap;
 use std::alloc::Global;
 use std::marker::Model;
+use std::mem::replace;
+
+const TOTAL_LIMIT: u64 = 4503599627370495;
 
 /// The rows of one asset, and the sum of their amounts.
 #[derive(Drop)]
@@ -30,30 +36,62 @@ impl Model for AssetRows {
     ghost invariant = { λ table. (table.total ≡ sum_held (held_of table.rows.entries)) × (table.total ≤ total_limit) };
 }
 
-// Writes the row of a holder, if it has one.
-fn write_row(rows: &mut IndexMap<Holder, u64>, holder: &Holder, n: u64) -> bool
-    ensures found { result ≡ set.contains (table_of rows.old.entries).rows holder.now }
-    ensures written { IsTrue result → table_of rows.new.entries ≡ with_row (table_of rows.old.entries) holder.now n }
-    ensures unchanged { result ≡ false → rows.new ≡ rows.old }
+/// What two holders had before units went from one to the other; where they are the same, the receiver's is what was
+/// left.
+#[derive(Clone, Copy, Drop)]
+pub(crate) struct Before {
+    pub sender: u64,
+    pub receiver: u64,
+}
+
+// Writes the row of a holder, if it has one, and gives what stood there.
+fn replace_amount(rows: &mut IndexMap<Holder, u64>, holder: &Holder, n: u64) -> Option<u64>
+    ensures found { is_some result ≡ set.contains (table_of rows.old.entries).rows holder.now }
+    ensures before { IfSome result (λ before. before ≡ amount (table_of rows.old.entries).held holder.now) }
+    ensures written { IfSome result (λ _. table_of rows.new.entries ≡ with_row (table_of rows.old.entries) holder.now n) }
 {
     match rows.get_mut(holder) {
-        Some(amount) => {
-            *amount = n;
-            true
-        }
-        None => false,
+        Some(amount) => Some(replace(amount, n)),
+        None => None,
     }
 }
 
-// Writes the row of a holder, or adds it.
-fn put_row(rows: &mut IndexMap<Holder, u64>, holder: &Holder, n: u64) -> Result<(), Memory>
-    ensures ok { OnOk result (table_of rows.new.entries ≡ with_row (table_of rows.old.entries) holder.now n) }
-    ensures err { OnErr result (rows.new.entries ≡ rows.old.entries) }
+// Takes n units from a holder that has so many, and gives what it had.
+fn take_units(rows: &mut IndexMap<Holder, u64>, from: &Holder, n: u64) -> Option<u64>
+    requires { 0 < n }
+    ensures before { IfSome result (λ before. before ≡ amount (table_of rows.old.entries).held from.now) }
+    ensures funds { IfSome result (λ before. n ≤ before) }
+    ensures taken { IfSome result (λ before. table_of rows.new.entries ≡ with_row (table_of rows.old.entries) from.now (before - n)) }
+    ensures short { IfNone result (amount (table_of rows.old.entries).held from.now < n) }
+    ensures unchanged { IfNone result (rows.new.entries ≡ rows.old.entries) }
+    ensures room { spare rows.new ≡ spare rows.old }
 {
-    match rows.insert(*holder, n) {
-        Ok(_) => Ok(()),
-        Err(_) => Err(Memory),
+    let Some(amount) = rows.get_mut(from) else {
+        return None;
+    };
+    let before = *amount;
+    if before < n {
+        return None;
     }
+    *amount = before - n;
+    Some(before)
+}
+
+// Adds n units at a holder, and gives what it had. A row that is there takes no memory.
+fn add_units(rows: &mut IndexMap<Holder, u64>, to: &Holder, n: u64) -> Result<u64, Memory>
+    requires { amount (table_of rows.old.entries).held to.now + n ≤ total_limit }
+    ensures before { IfOk result (λ before. before ≡ amount (table_of rows.old.entries).held to.now) }
+    ensures added { IfOk result (λ before. table_of rows.new.entries ≡ with_row (table_of rows.old.entries) to.now (before + n)) }
+    ensures err { OnErr result (rows.new.entries ≡ rows.old.entries) }
+    ensures succeeds { 0 < spare rows.old → IsOk result }
+{
+    if let Some(amount) = rows.get_mut(to) {
+        let before = *amount;
+        *amount = before + n;
+        return Ok(before);
+    }
+    rows.insert(*to, n)?;
+    Ok(0)
 }
 
 impl AssetRows {
@@ -67,7 +105,8 @@ impl AssetRows {
     }
 
     pub fn amount(&self, holder: &Holder) -> u64
-        ensures { result ≡ amount self.now.held holder.now }
+        ensures amount { result ≡ amount self.now.held holder.now }
+        ensures limit { result ≤ total_limit }
     {
         match self.rows.get(holder) {
             Some(amount) => *amount,
@@ -82,18 +121,57 @@ impl AssetRows {
         self.total
     }
 
-    /// Gives the holder n units in place of those that it has. A row that is there takes no memory.
-    pub fn set(&mut self, holder: &Holder, before: u64, n: u64) -> Result<(), Memory>
-        requires before { before ≡ amount self.old.held holder.now }
-        requires limit { sum_held self.old.held - before + n ≤ total_limit }
-        ensures ok { OnOk result (self.new ≡ with_row self.old holder.now n) }
-        ensures undone { set_amount (set_amount self.old.held holder.now n) holder.now (amount self.old.held holder.now) ≡ self.old.held }
+    /// Adds n units at a holder, and gives what it had. `TotalLimit` exactly where the total would be above 2^52-1.
+    pub fn issue(&mut self, to: &Holder, n: u64) -> Result<u64, Fault>
+        ensures before { IfOk result (λ before. before ≡ amount self.old.held to.now) }
+        ensures limit { OnOk result (sum_held self.old.held + n ≤ total_limit) }
+        ensures ok { IfOk result (λ before. self.new ≡ with_row self.old to.now (before + n)) }
+        ensures fault { IfErr result (λ fault. Because fault refusal.TotalLimit (total_limit < sum_held self.old.held + n)) }
         ensures err { OnErr result (self.new ≡ self.old) }
     {
-        let total = self.total - before + n;
-        put_row(&mut self.rows, holder, n)?;
-        self.total = total;
-        Ok(())
+        if n > TOTAL_LIMIT - self.total {
+            return Err(Fault::Refused(Refusal::TotalLimit));
+        }
+        let before = add_units(&mut self.rows, to, n)?;
+        self.total += n;
+        Ok(before)
+    }
+
+    /// Takes n units from a holder, and gives what it had. `Funds` exactly where it has fewer.
+    pub fn retire(&mut self, from: &Holder, n: u64) -> Result<u64, Fault>
+        requires { 0 < n }
+        ensures before { IfOk result (λ before. before ≡ amount self.old.held from.now) }
+        ensures funds { IfOk result (λ before. n ≤ before) }
+        ensures limit { OnOk result (sum_held self.old.held ≤ total_limit) }
+        ensures ok { IfOk result (λ before. self.new ≡ with_row self.old from.now (before - n)) }
+        ensures fault { IfErr result (λ fault. Because fault refusal.Funds (amount self.old.held from.now < n)) }
+        ensures err { OnErr result (self.new ≡ self.old) }
+    {
+        let Some(before) = take_units(&mut self.rows, from, n) else {
+            return Err(Fault::Refused(Refusal::Funds));
+        };
+        self.total -= n;
+        Ok(before)
+    }
+
+    /// Moves n units, and gives what the two had before. `Funds` exactly where the sender has fewer.
+    pub fn move_units(&mut self, from: &Holder, to: &Holder, n: u64) -> Result<Before, Fault>
+        requires { 0 < n }
+        ensures sender { IfOk result (λ before. before.sender ≡ amount self.old.held from.now) }
+        ensures funds { IfOk result (λ before. n ≤ before.sender) }
+        ensures receiver { IfOk result (λ before. before.receiver ≡ amount (with_row self.old from.now (before.sender - n)).held to.now) }
+        ensures limit { OnOk result (sum_held self.old.held ≤ total_limit) }
+        ensures ok { IfOk result (λ before. self.new ≡ with_row (with_row self.old from.now (before.sender - n)) to.now (before.receiver + n)) }
+        ensures fault { IfErr result (λ fault. Because fault refusal.Funds (amount self.old.held from.now < n)) }
+        ensures err { OnErr result (self.new ≡ self.old) }
+    {
+        // With room for a new row nothing can fail once the sender's is written.
+        self.rows.reserve(1)?;
+        let Some(sender) = take_units(&mut self.rows, from, n) else {
+            return Err(Fault::Refused(Refusal::Funds));
+        };
+        let receiver = add_units(&mut self.rows, to, n).unwrap();
+        Ok(Before { sender, receiver })
     }
 
     /// Gives a holder that has a row this amount.
@@ -102,8 +180,7 @@ impl AssetRows {
         requires limit { sum_held self.old.held - amount self.old.held holder.now + n ≤ total_limit }
         ensures { self.new ≡ with_row self.old holder.now n }
     {
-        let total = self.total - self.amount(holder) + n;
-        write_row(&mut self.rows, holder, n);
-        self.total = total;
+        let before = replace_amount(&mut self.rows, holder, n).unwrap();
+        self.total = self.total - before + n;
     }
 }

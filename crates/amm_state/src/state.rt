@@ -22,6 +22,7 @@ impl Model for State {
     ghost use Rattle.amm_model.specs.Ledger.{Ledger};
     ghost use Rattle.amm_model.specs.Codes.{ledger_code};
     ghost use Rattle.amm_model.specs.Sound.{IsAtRest};
+    ghost use Rattle.amm_state.specs.Journal.{IsCanonical};
 
     ghost Value = { Ledger };
 
@@ -29,7 +30,7 @@ impl Model for State {
 
     ghost view = { λ state. state.book.ledger };
 
-    ghost invariant = { λ state. IsAtRest state.book.ledger × (state.journal ≡ []) };
+    ghost invariant = { λ state. IsAtRest state.book.ledger × IsCanonical state.book.ledger × (state.journal.changes ≡ []) };
 }
 
 impl State {

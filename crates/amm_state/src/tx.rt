@@ -2,6 +2,7 @@
 ghost use Rattle.std.specs.Prelude.{◌≡◌};
 ghost use Rattle.amm_model.specs.Sound.{IsAtRest};
 ghost use Rattle.amm_state.specs.declared.mark.Mark.{Mark};
+ghost use Rattle.amm_state.specs.Tx.{mark_of};
 
 mod lists;
 mod settings;
@@ -29,9 +30,9 @@ impl Model for Tx {
 
     ghost coded = { progress_code };
 
-    ghost view = { λ tx. record { opening = undo_all tx.journal tx.book.ledger; present = tx.book.ledger; mark = tx.mark } };
+    ghost view = { λ tx. record { opening = undo_all tx.journal.changes tx.book.ledger; present = tx.book.ledger; mark = tx.mark } };
 
-    ghost invariant = { λ tx. IsRevertible tx.journal tx.book };
+    ghost invariant = { λ tx. IsRevertible tx.journal.changes tx.book };
 }
 
 impl Tx {
@@ -81,6 +82,18 @@ impl Tx {
     {
         self.mark = Mark::NoMemory;
         Fault::Memory
+    }
+
+    // Ends the transaction by this fault.
+    fn fail(&mut self, fault: Fault) -> Fault
+        requires { self.old.mark ≡ Mark.Clean }
+        ensures fault { result ≡ fault }
+        ensures after { self.new ≡ record self.old { mark = mark_of fault } }
+    {
+        match fault {
+            Fault::Refused(why) => self.refuse(why),
+            Fault::Memory => self.lack(),
+        }
     }
 
     /// Keeps the present ledger.

@@ -39,14 +39,10 @@ impl Tx {
         ensures ok { OnOk result (self.new ≡ record self.old { present = with_token self.old.present token.now }) }
         ensures err { OnErr result (self.new ≡ self.old) }
     {
-        self.journal.push(Undo::Token)?;
-        match self.book.add_token(token) {
-            Ok(()) => Ok(()),
-            Err(Memory) => {
-                let _ = self.journal.pop();
-                Err(Memory)
-            }
-        }
+        self.journal.reserve(1)?;
+        self.book.add_token(token)?;
+        self.journal.note(Undo::Token);
+        Ok(())
     }
 
     /// Adds a pair with nothing in it, last. `PairLimit` exactly where 256 are.
@@ -70,14 +66,10 @@ impl Tx {
         ensures ok { OnOk result (self.new ≡ record self.old { present = with_pairs self.old.present (self.old.present.pairs ++ (pool.now, zero_pair) ∷ []) }) }
         ensures err { OnErr result (self.new ≡ self.old) }
     {
-        self.journal.push(Undo::NewPair)?;
-        match self.book.add_pair(pool) {
-            Ok(()) => Ok(()),
-            Err(Memory) => {
-                let _ = self.journal.pop();
-                Err(Memory)
-            }
-        }
+        self.journal.reserve(1)?;
+        self.book.add_pair(pool)?;
+        self.journal.note(Undo::NewPair);
+        Ok(())
     }
 
     /// Writes the record of a pair. Only want of memory refuses, and then the ledger stays.
@@ -99,9 +91,9 @@ impl Tx {
         ensures ok { OnOk result (self.new ≡ record self.old { present = with_pair self.old.present pool.now new }) }
         ensures err { OnErr result (self.new ≡ self.old) }
     {
-        let before = *self.book.pair(pool).unwrap();
-        self.journal.push(Undo::Pair(*pool, before))?;
-        self.book.set_pair(pool, new);
+        self.journal.reserve(1)?;
+        let before = self.book.replace_pair(pool, new).unwrap();
+        self.journal.note(Undo::Pair(*pool, before));
         Ok(())
     }
 }

@@ -28,8 +28,8 @@ impl Tx {
         ensures ok { OnOk result (self.new ≡ record self.old { present = with_fee_to self.old.present to.now }) }
         ensures err { OnErr result (self.new ≡ self.old) }
     {
-        let before = *self.book.fee_to();
-        self.journal.push(Undo::FeeTo(before))?;
+        self.journal.reserve(1)?;
+        self.journal.note(Undo::FeeTo(*self.book.fee_to()));
         self.book.set_fee_to(*to);
         Ok(())
     }
@@ -50,8 +50,8 @@ impl Tx {
         ensures ok { OnOk result (self.new ≡ record self.old { present = with_setter self.old.present to.now }) }
         ensures err { OnErr result (self.new ≡ self.old) }
     {
-        let before = *self.book.setter();
-        self.journal.push(Undo::Setter(before))?;
+        self.journal.reserve(1)?;
+        self.journal.note(Undo::Setter(*self.book.setter()));
         self.book.set_setter(*to);
         Ok(())
     }
@@ -75,8 +75,8 @@ impl Tx {
         ensures ok { OnOk result (self.new ≡ record self.old { present = with_time self.old.present time }) }
         ensures err { OnErr result (self.new ≡ self.old) }
     {
-        let before = self.book.time();
-        self.journal.push(Undo::Time(before))?;
+        self.journal.reserve(1)?;
+        self.journal.note(Undo::Time(self.book.time()));
         self.book.set_time(time);
         Ok(())
     }

@@ -1,75 +1,41 @@
 //! Units of an asset: issued, retired, moved.
-ghost use Rattle.std.specs.Prelude.{◌≡◌, ◌+◌, ◌-◌, ◌≤◌, OnOk, OnErr};
-ghost use Rattle.amm_model.specs.Ledger.{done, issue, retire, transfer, set_balance, balance, total, total_limit};
+ghost use Rattle.std.specs.Prelude.{◌≡◌, ◌+◌, ◌<◌, ◌≤◌, OnOk, OnErr, IfErr};
+ghost use Rattle.amm_model.specs.declared.fault.Refusal.TheVariants as refusal;
+ghost use Rattle.amm_model.specs.Ledger.{issue, retire, transfer, added, taken, moved, balance, total, total_limit};
 ghost use Rattle.amm_state.specs.declared.mark.Mark.{Mark};
+ghost use Rattle.amm_state.specs.Rows.{Because};
 ghost use Rattle.amm_state.specs.Tx.{Meets};
 
 use super::Tx;
 use crate::journal::Undo;
 use amm_model::{Fault, Refusal};
-use amm_names::{Asset, Holder, Memory};
+use amm_names::{Asset, Holder};
 use std::alloc::Global;
 
-const TOTAL_LIMIT: u64 = 4503599627370495;
-
 impl Tx {
-    // Gives the holder n units in place of those that it has, and notes these.
-    fn set_balance(
-        &mut self,
-        alloc: Global,
-        asset: &Asset,
-        holder: &Holder,
-        before: u64,
-        n: u64,
-    ) -> Result<(), Memory>
-        requires whole { total self.old.present asset.now ≤ total_limit }
-        requires before { before ≡ balance self.old.present asset.now holder.now }
-        requires limit { total self.old.present asset.now - before + n ≤ total_limit }
-        ensures ok { OnOk result (self.new ≡ record self.old { present = set_balance self.old.present asset.now holder.now n }) }
-        ensures err { OnErr result (self.new ≡ self.old) }
-    {
-        self.journal.push(Undo::Balance(*asset, *holder, before))?;
-        match self.book.set_balance(alloc, asset, holder, before, n) {
-            Ok(()) => Ok(()),
-            Err(Memory) => {
-                let _ = self.journal.pop();
-                Err(Memory)
-            }
-        }
-    }
-
-    // The same as a call of a transaction.
-    fn write_balance(
-        &mut self,
-        alloc: Global,
-        asset: &Asset,
-        holder: &Holder,
-        before: u64,
-        n: u64,
-    ) -> Result<(), Fault>
-        requires clean { self.old.mark ≡ Mark.Clean }
-        requires whole { total self.old.present asset.now ≤ total_limit }
-        requires before { before ≡ balance self.old.present asset.now holder.now }
-        requires limit { total self.old.present asset.now - before + n ≤ total_limit }
-        ensures { Meets self.old self.new result (done (set_balance self.old.present asset.now holder.now n)) }
-    {
-        match self.set_balance(alloc, asset, holder, before, n) {
-            Ok(()) => Ok(()),
-            Err(_) => Err(self.lack()),
-        }
-    }
-
     /// Adds n units of the asset at a holder. `TotalLimit` exactly where the total would be above 2^52-1.
     #[tactic(auto, unfolding(amm_model::specs::Ledger::issue))]
     pub fn issue(&mut self, alloc: Global, asset: &Asset, to: &Holder, n: u64) -> Result<(), Fault>
         requires { self.old.mark ≡ Mark.Clean }
         ensures { Meets self.old self.new result (issue self.old.present asset.now to.now n) }
     {
-        let account = self.book.account(asset, to);
-        if n > TOTAL_LIMIT - account.total {
-            return Err(self.refuse(Refusal::TotalLimit));
+        match self.add_units(alloc, asset, to, n) {
+            Ok(()) => Ok(()),
+            Err(fault) => Err(self.fail(fault)),
         }
-        self.write_balance(alloc, asset, to, account.amount, account.amount + n)
+    }
+
+    // Adds the units, and notes what the holder had.
+    fn add_units(&mut self, alloc: Global, asset: &Asset, to: &Holder, n: u64) -> Result<(), Fault>
+        ensures limit { OnOk result (total self.old.present asset.now + n ≤ total_limit) }
+        ensures ok { OnOk result (self.new ≡ record self.old { present = added self.old.present asset.now to.now n }) }
+        ensures fault { IfErr result (λ fault. Because fault refusal.TotalLimit (total_limit < total self.old.present asset.now + n)) }
+        ensures err { OnErr result (self.new ≡ self.old) }
+    {
+        self.journal.reserve(1)?;
+        let before = self.book.issue(alloc, asset, to, n)?;
+        self.journal.note(Undo::Balance(*asset, *to, before));
+        Ok(())
     }
 
     /// Takes n units of the asset away from a holder. `Funds` exactly where it has fewer.
@@ -84,11 +50,26 @@ impl Tx {
         requires { self.old.mark ≡ Mark.Clean }
         ensures { Meets self.old self.new result (retire self.old.present asset.now from.now n) }
     {
-        let account = self.book.account(asset, from);
-        if account.amount < n {
-            return Err(self.refuse(Refusal::Funds));
+        match self.take_units(asset, from, n) {
+            Ok(()) => Ok(()),
+            Err(fault) => Err(self.fail(fault)),
         }
-        self.write_balance(alloc, asset, from, account.amount, account.amount - n)
+    }
+
+    // Takes the units, if there are any, and notes what the holder had.
+    fn take_units(&mut self, asset: &Asset, from: &Holder, n: u64) -> Result<(), Fault>
+        ensures funds { OnOk result (n ≤ balance self.old.present asset.now from.now) }
+        ensures ok { OnOk result (self.new ≡ record self.old { present = taken self.old.present asset.now from.now n }) }
+        ensures fault { IfErr result (λ fault. Because fault refusal.Funds (balance self.old.present asset.now from.now < n)) }
+        ensures err { OnErr result (self.new ≡ self.old) }
+    {
+        self.journal.reserve(1)?;
+        if n == 0 {
+            return Ok(());
+        }
+        let before = self.book.retire(asset, from, n)?;
+        self.journal.note(Undo::Balance(*asset, *from, before));
+        Ok(())
     }
 
     /// Moves n units of the asset from one holder to another. `Funds` exactly where the first has fewer.
@@ -104,14 +85,46 @@ impl Tx {
         requires { self.old.mark ≡ Mark.Clean }
         ensures { Meets self.old self.new result (transfer self.old.present asset.now from.now to.now n) }
     {
-        let sender = self.book.account(asset, from);
-        if sender.amount < n {
-            return Err(self.refuse(Refusal::Funds));
-        }
         if from == to {
+            return self.need_funds(asset, from, n);
+        }
+        match self.pass_units(asset, from, to, n) {
+            Ok(()) => Ok(()),
+            Err(fault) => Err(self.fail(fault)),
+        }
+    }
+
+    // Refuses where the holder has fewer than n units.
+    #[tactic(auto, unfolding(amm_model::specs::Ledger::transfer))]
+    fn need_funds(&mut self, asset: &Asset, holder: &Holder, n: u64) -> Result<(), Fault>
+        requires { self.old.mark ≡ Mark.Clean }
+        ensures { Meets self.old self.new result (transfer self.old.present asset.now holder.now holder.now n) }
+    {
+        if n == 0 {
             return Ok(());
         }
-        self.write_balance(alloc, asset, from, sender.amount, sender.amount - n)?;
-        self.issue(alloc, asset, to, n)
+        if self.book.balance(asset, holder) < n {
+            return Err(self.refuse(Refusal::Funds));
+        }
+        Ok(())
+    }
+
+    // Moves the units, if there are any, and notes what the two holders had.
+    fn pass_units(&mut self, asset: &Asset, from: &Holder, to: &Holder, n: u64) -> Result<(), Fault>
+        ensures funds { OnOk result (n ≤ balance self.old.present asset.now from.now) }
+        ensures ok { OnOk result (self.new ≡ record self.old { present = moved self.old.present asset.now from.now to.now n }) }
+        ensures fault { IfErr result (λ fault. Because fault refusal.Funds (balance self.old.present asset.now from.now < n)) }
+        ensures err { OnErr result (self.new ≡ self.old) }
+    {
+        self.journal.reserve(2)?;
+        if n == 0 {
+            return Ok(());
+        }
+        let before = self.book.move_units(asset, from, to, n)?;
+        self.journal
+            .note(Undo::Balance(*asset, *from, before.sender));
+        self.journal
+            .note(Undo::Balance(*asset, *to, before.receiver));
+        Ok(())
     }
 }

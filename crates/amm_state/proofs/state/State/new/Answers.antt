@@ -3,6 +3,7 @@ use Rattle.std.proofs.lemmas.Map.Keys.{IsDistinct-from_apart}
 use Rattle.amm_model.specs.Ledger.{opening_ledger, with_setter}
 use Rattle.amm_model.specs.Sound.{IsSound, IsAtRest}
 use Rattle.amm_model.proofs.LedgerLemmas.{total-nothing}
+use Rattle.amm_state.proofs.Canonical.{canonical-opening}
 use Rattle.amm_state.proofs.state.State.new.Goals as goal
 
 opening_sound : (setter : List ℕ) → IsSound (with_setter opening_ledger setter)
@@ -22,4 +23,4 @@ opening_rest : (setter : List ℕ) → IsAtRest (with_setter opening_ledger sett
 opening_rest setter = record { sound = opening_sound setter; unlocked = λ pool pair is. cc }
 
 pub invariant_of-result : goal.invariant_of-result
-invariant_of-result c = (rw c.new.ensures (opening_rest c.unwrap-setter.result), c.new-2.ensures)
+invariant_of-result c = (rw c.new.ensures (opening_rest c.unwrap-setter.result), rw c.new.ensures (canonical-opening c.unwrap-setter.result), c.new-2.ensures)
