@@ -2,3 +2,5 @@ pub mod Steps
 pub mod Room
 pub mod Listed
 pub mod Hops
+pub mod Values
+pub mod Numerals

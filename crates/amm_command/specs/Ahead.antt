@@ -7,6 +7,12 @@ use Rattle.amm_model.specs.declared.path.RoutePath.{RoutePath}
 use Rattle.amm_model.specs.Outcome.{◌>>=◌}
 use Rattle.amm_model.specs.Forms.{as_token, as_fee, Hop, hops}
 
+-- a token that no fee stands before, which is one value
+abbrev pub plain_hop : Data → Result (ℕ × List ℕ × ℕ) Refusal
+plain_hop next = do
+  token ← as_token next
+  Ok (3, token, 1)
+
 -- the fee and the token that stand first, and by how many values
 abbrev pub hop_ahead : List Data → Result (ℕ × List ℕ × ℕ) Refusal
 hop_ahead [] = Err BadCommand
@@ -14,9 +20,7 @@ hop_ahead (number n ∷ next ∷ rest) = do
   fee ← as_fee (number n)
   token ← as_token next
   Ok (fee, token, 2)
-hop_ahead (next ∷ rest) = do
-  token ← as_token next
-  Ok (3, token, 1)
+hop_ahead (next ∷ rest) = plain_hop next
 
 -- a path that goes on
 abbrev pub onto : RoutePath → List Hop → RoutePath

@@ -4,11 +4,13 @@
 
 mod form;
 mod line;
+mod number;
 mod path;
 mod row;
 mod step;
 mod step_row;
 #[cfg(test)]
 mod tests;
+mod value;
 
-pub use line::read_line;
+pub use line::{LineReader, read_line};

@@ -1,55 +1,58 @@
 //! A whole line.
-ghost use Rattle.std.specs.Prelude.{◌≡◌, map, ok_or};
-ghost use Rattle.serde_json.specs.View.{view};
-ghost use Rattle.amm_model.specs.declared.fault.Refusal.TheVariants.{BadJson};
+ghost use Rattle.std.specs.Prelude.{◌≡◌, map};
 ghost use Rattle.amm_model.specs.Outcome.{Gives};
-ghost use Rattle.amm_model.specs.Json.{json_value};
 ghost use Rattle.amm_model.specs.CommandView.{view_of};
 ghost use Rattle.amm_model.specs.Reading.{act_row, row_of, command_of_list, command_of, command_of_line};
+ghost use Rattle.amm_command.specs.Seen.{seen};
 
 use crate::form::{MISFIT, list, text, user};
 use crate::row;
 use crate::step::{fits, move_row};
-use amm_model::{Command, Fault, Refusal};
-use serde_json::Value;
+use crate::value::read_value;
+use amm_model::{Command, Fault, Memory};
+use json::{Scratch, Value};
 use std::alloc::Global;
 
-/// The command that the bytes of a line are. `BadJson` exactly where they are no JSON, and `BadCommand` exactly where they are JSON
-/// that fits no row of the table of commands.
-#[tactic(auto, unfolding(amm_model::specs::Reading::command_of_line))]
-pub fn read_line(alloc: Global, bytes: &[u8]) -> Result<Command, Fault>
-    ensures { Gives view_of result (command_of_line bytes.now) }
-{
-    let value = json(alloc, bytes)?;
-    command(alloc, &value)
+/// Reads lines one after another. What reading takes of memory is kept from line to line.
+#[derive(Drop)]
+pub struct LineReader {
+    scratch: Box<Scratch>,
 }
 
-#[tactic(auto, unfolding(amm_model::specs::Json::json_value))]
-fn json(alloc: Global, bytes: &[u8]) -> Result<Value, Fault>
-    ensures { Gives view result (ok_or (json_value bytes.now) BadJson) }
-{
-    match Value::from_slice(alloc, bytes) {
-        Ok(value) => Ok(value),
-        Err(e) => {
-            if e.is_memory() {
-                Err(Fault::Memory)
-            } else {
-                Err(Fault::Refused(Refusal::BadJson))
-            }
-        }
+impl LineReader {
+    pub fn new(alloc: Global) -> Result<LineReader, Memory> {
+        let scratch = Box::new(alloc, Scratch::new(alloc))?;
+        Ok(LineReader { scratch })
+    }
+
+    /// The command that the bytes of a line are. `BadJson` exactly where they are no JSON, and `BadCommand` exactly where they are JSON
+    /// that fits no row of the table of commands.
+    #[tactic(auto, unfolding(amm_model::specs::Reading::command_of_line))]
+    pub fn read(&mut self, alloc: Global, bytes: &[u8]) -> Result<Command, Fault>
+        ensures { Gives view_of result (command_of_line bytes.now) }
+    {
+        let value = read_value(alloc, bytes, &mut self.scratch)?;
+        command(alloc, &value)
     }
 }
 
+/// The command that the bytes of one line are, as `LineReader::read` reads it.
+pub fn read_line(alloc: Global, bytes: &[u8]) -> Result<Command, Fault>
+    ensures { Gives view_of result (command_of_line bytes.now) }
+{
+    LineReader::new(alloc)?.read(alloc, bytes)
+}
+
 #[tactic(auto, unfolding(amm_model::specs::Reading::command_of))]
-fn command(alloc: Global, value: &Value) -> Result<Command, Fault>
-    ensures { Gives view_of result (command_of (view value.now)) }
+fn command(alloc: Global, value: &Value<'_>) -> Result<Command, Fault>
+    ensures { Gives view_of result (command_of (seen value.now)) }
 {
     let values = list(value)?;
     command_of_list(alloc, values)
 }
 
-fn command_of_list(alloc: Global, values: &[Value]) -> Result<Command, Fault>
-    ensures { Gives view_of result (command_of_list (map view values.now)) }
+fn command_of_list(alloc: Global, values: &[Value<'_>]) -> Result<Command, Fault>
+    ensures { Gives view_of result (command_of_list (map seen values.now)) }
 {
     match values {
         [kind, arguments @ ..] => {
@@ -61,8 +64,8 @@ fn command_of_list(alloc: Global, values: &[Value]) -> Result<Command, Fault>
 }
 
 #[tactic(auto, unfolding(amm_model::specs::Reading::row_of))]
-fn row_of(alloc: Global, kind: &str, arguments: &[Value]) -> Result<Command, Fault>
-    ensures { Gives view_of result (row_of kind.now (map view arguments.now)) }
+fn row_of(alloc: Global, kind: &str, arguments: &[Value<'_>]) -> Result<Command, Fault>
+    ensures { Gives view_of result (row_of kind.now (map seen arguments.now)) }
 {
     match kind {
         "deposit" => row::deposit(alloc, arguments),
@@ -81,8 +84,8 @@ fn row_of(alloc: Global, kind: &str, arguments: &[Value]) -> Result<Command, Fau
     }
 }
 
-fn act(alloc: Global, kind: &str, arguments: &[Value]) -> Result<Command, Fault>
-    ensures { Gives view_of result (act_row kind.now (map view arguments.now)) }
+fn act(alloc: Global, kind: &str, arguments: &[Value<'_>]) -> Result<Command, Fault>
+    ensures { Gives view_of result (act_row kind.now (map seen arguments.now)) }
 {
     match arguments {
         [actor, arguments @ ..] => {

@@ -1,19 +1,19 @@
 //! Paths: tokens, and the fees that are not 3 between them.
 ghost use Rattle.std.specs.Prelude.{◌≡◌, ◌<◌, ◌≤◌, length, map, IfOk};
-ghost use Rattle.serde_json.specs.View.{view};
 ghost use Rattle.amm_model.specs.Outcome.{Gives};
 ghost use Rattle.amm_model.specs.Forms.{path_along, as_path};
-ghost use Rattle.amm_command.specs.Ahead.{hop_ahead, path_from};
+ghost use Rattle.amm_command.specs.Ahead.{plain_hop, hop_ahead, path_from};
+ghost use Rattle.amm_command.specs.Seen.{seen};
 
-use crate::form::{MISFIT, fee, list, token};
+use crate::form::{MISFIT, fee, is_number, list, token};
 use amm_model::{Fault, FeeList, RoutePath, TokenList, TokenName};
-use serde_json::Value;
+use json::Value;
 use std::alloc::Global;
 
 /// A path of 2 to 8 tokens.
 #[tactic(auto, unfolding(amm_model::specs::Forms::as_path))]
-pub fn path(alloc: Global, value: &Value) -> Result<RoutePath, Fault>
-    ensures { Gives (λ path. path) result (as_path (view value.now)) }
+pub fn path(alloc: Global, value: &Value<'_>) -> Result<RoutePath, Fault>
+    ensures { Gives (λ path. path) result (as_path (seen value.now)) }
 {
     let values = list(value)?;
     let path = path_along(alloc, values)?;
@@ -25,8 +25,8 @@ pub fn path(alloc: Global, value: &Value) -> Result<RoutePath, Fault>
     }
 }
 
-fn path_along(alloc: Global, values: &[Value]) -> Result<RoutePath, Fault>
-    ensures { Gives (λ path. path) result (path_along (map view values.now)) }
+fn path_along(alloc: Global, values: &[Value<'_>]) -> Result<RoutePath, Fault>
+    ensures { Gives (λ path. path) result (path_along (map seen values.now)) }
 {
     match values {
         [first, rest @ ..] => path_from(alloc, token(alloc, first)?, rest),
@@ -35,8 +35,8 @@ fn path_along(alloc: Global, values: &[Value]) -> Result<RoutePath, Fault>
 }
 
 /// The path from its first token on.
-fn path_from(alloc: Global, first: TokenName, values: &[Value]) -> Result<RoutePath, Fault>
-    ensures { Gives (λ path. path) result (path_from first (map view values.now)) }
+fn path_from(alloc: Global, first: TokenName, values: &[Value<'_>]) -> Result<RoutePath, Fault>
+    ensures { Gives (λ path. path) result (path_from first (map seen values.now)) }
 {
     let mut tokens = Vec::with_capacity(alloc, 8)?;
     let mut fees = Vec::with_capacity(alloc, 8)?;
@@ -55,16 +55,24 @@ fn path_from(alloc: Global, first: TokenName, values: &[Value]) -> Result<RouteP
 }
 
 /// The fee and the token that stand first, and by how many values.
-fn hop_ahead(alloc: Global, values: &[Value]) -> Result<(u8, TokenName, usize), Fault>
-    ensures value { Gives (λ p. p) result (hop_ahead (map view values.now)) }
+fn hop_ahead(alloc: Global, values: &[Value<'_>]) -> Result<(u8, TokenName, usize), Fault>
+    ensures value { Gives (λ p. p) result (hop_ahead (map seen values.now)) }
     ensures more { IfOk result (λ p. 0 < p.2) }
     ensures no_more { IfOk result (λ p. p.2 ≤ length values.now) }
 {
     match values {
-        [fee_value, value, ..] if fee_value.is_number() => {
+        [fee_value, value, ..] if is_number(fee_value) => {
             Ok((fee(fee_value)?, token(alloc, value)?, 2))
         }
-        [value, ..] => Ok((3, token(alloc, value)?, 1)),
+        [value, ..] => plain_hop(alloc, value),
         [] => Err(MISFIT),
     }
+}
+
+/// A token that no fee stands before.
+fn plain_hop(alloc: Global, value: &Value<'_>) -> Result<(u8, TokenName, usize), Fault>
+    ensures value { Gives (λ p. p) result (plain_hop (seen value.now)) }
+    ensures one { IfOk result (λ p. p.2 ≡ 1) }
+{
+    Ok((3, token(alloc, value)?, 1))
 }

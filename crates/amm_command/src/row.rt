@@ -1,18 +1,18 @@
 //! The rows of the table of commands.
 ghost use Rattle.std.specs.Prelude.{◌≡◌, map};
-ghost use Rattle.serde_json.specs.View.{view};
 ghost use Rattle.amm_model.specs.Outcome.{Gives};
 ghost use Rattle.amm_model.specs.CommandView.{view_of};
 ghost use Rattle.amm_model.specs.Reading.{deposit_row, withdraw_row, time_row, fee_to_row, setter_row, quote_out_row, quote_in_row, split_row, certificate_row, pool_row, balance_row, total_row};
+ghost use Rattle.amm_command.specs.Seen.{seen};
 
 use crate::form::{MISFIT, amount, asset, holder, pool, token, user};
 use crate::path::path;
 use amm_model::{Command, Fault};
-use serde_json::Value;
+use json::Value;
 use std::alloc::Global;
 
-pub fn deposit(alloc: Global, arguments: &[Value]) -> Result<Command, Fault>
-    ensures { Gives view_of result (deposit_row (map view arguments.now)) }
+pub fn deposit(alloc: Global, arguments: &[Value<'_>]) -> Result<Command, Fault>
+    ensures { Gives view_of result (deposit_row (map seen arguments.now)) }
 {
     match arguments {
         [user_value, token_value, n_value] => Ok(Command::Deposit {
@@ -24,8 +24,8 @@ pub fn deposit(alloc: Global, arguments: &[Value]) -> Result<Command, Fault>
     }
 }
 
-pub fn withdraw(alloc: Global, arguments: &[Value]) -> Result<Command, Fault>
-    ensures { Gives view_of result (withdraw_row (map view arguments.now)) }
+pub fn withdraw(alloc: Global, arguments: &[Value<'_>]) -> Result<Command, Fault>
+    ensures { Gives view_of result (withdraw_row (map seen arguments.now)) }
 {
     match arguments {
         [user_value, token_value, n_value] => Ok(Command::Withdraw {
@@ -37,8 +37,8 @@ pub fn withdraw(alloc: Global, arguments: &[Value]) -> Result<Command, Fault>
     }
 }
 
-pub fn time(arguments: &[Value]) -> Result<Command, Fault>
-    ensures { Gives view_of result (time_row (map view arguments.now)) }
+pub fn time(arguments: &[Value<'_>]) -> Result<Command, Fault>
+    ensures { Gives view_of result (time_row (map seen arguments.now)) }
 {
     match arguments {
         [n_value] => Ok(Command::Time {
@@ -48,8 +48,8 @@ pub fn time(arguments: &[Value]) -> Result<Command, Fault>
     }
 }
 
-pub fn fee_to(alloc: Global, arguments: &[Value]) -> Result<Command, Fault>
-    ensures { Gives view_of result (fee_to_row (map view arguments.now)) }
+pub fn fee_to(alloc: Global, arguments: &[Value<'_>]) -> Result<Command, Fault>
+    ensures { Gives view_of result (fee_to_row (map seen arguments.now)) }
 {
     match arguments {
         [actor_value, to_value] => Ok(Command::FeeTo {
@@ -60,8 +60,8 @@ pub fn fee_to(alloc: Global, arguments: &[Value]) -> Result<Command, Fault>
     }
 }
 
-pub fn setter(alloc: Global, arguments: &[Value]) -> Result<Command, Fault>
-    ensures { Gives view_of result (setter_row (map view arguments.now)) }
+pub fn setter(alloc: Global, arguments: &[Value<'_>]) -> Result<Command, Fault>
+    ensures { Gives view_of result (setter_row (map seen arguments.now)) }
 {
     match arguments {
         [actor_value, to_value] => Ok(Command::Setter {
@@ -72,8 +72,8 @@ pub fn setter(alloc: Global, arguments: &[Value]) -> Result<Command, Fault>
     }
 }
 
-pub fn quote_out(alloc: Global, arguments: &[Value]) -> Result<Command, Fault>
-    ensures { Gives view_of result (quote_out_row (map view arguments.now)) }
+pub fn quote_out(alloc: Global, arguments: &[Value<'_>]) -> Result<Command, Fault>
+    ensures { Gives view_of result (quote_out_row (map seen arguments.now)) }
 {
     match arguments {
         [path_value, n_value] => Ok(Command::QuoteOut {
@@ -84,8 +84,8 @@ pub fn quote_out(alloc: Global, arguments: &[Value]) -> Result<Command, Fault>
     }
 }
 
-pub fn quote_in(alloc: Global, arguments: &[Value]) -> Result<Command, Fault>
-    ensures { Gives view_of result (quote_in_row (map view arguments.now)) }
+pub fn quote_in(alloc: Global, arguments: &[Value<'_>]) -> Result<Command, Fault>
+    ensures { Gives view_of result (quote_in_row (map seen arguments.now)) }
 {
     match arguments {
         [path_value, n_value] => Ok(Command::QuoteIn {
@@ -96,8 +96,8 @@ pub fn quote_in(alloc: Global, arguments: &[Value]) -> Result<Command, Fault>
     }
 }
 
-pub fn split(alloc: Global, arguments: &[Value]) -> Result<Command, Fault>
-    ensures { Gives view_of result (split_row (map view arguments.now)) }
+pub fn split(alloc: Global, arguments: &[Value<'_>]) -> Result<Command, Fault>
+    ensures { Gives view_of result (split_row (map seen arguments.now)) }
 {
     match arguments {
         [s_value, t_value, d_value] => Ok(Command::Split {
@@ -109,8 +109,8 @@ pub fn split(alloc: Global, arguments: &[Value]) -> Result<Command, Fault>
     }
 }
 
-pub fn certificate(arguments: &[Value]) -> Result<Command, Fault>
-    ensures { Gives view_of result (certificate_row (map view arguments.now)) }
+pub fn certificate(arguments: &[Value<'_>]) -> Result<Command, Fault>
+    ensures { Gives view_of result (certificate_row (map seen arguments.now)) }
 {
     match arguments {
         [quote_value] => Ok(Command::Certificate {
@@ -120,8 +120,8 @@ pub fn certificate(arguments: &[Value]) -> Result<Command, Fault>
     }
 }
 
-pub fn pool_row(alloc: Global, arguments: &[Value]) -> Result<Command, Fault>
-    ensures { Gives view_of result (pool_row (map view arguments.now)) }
+pub fn pool_row(alloc: Global, arguments: &[Value<'_>]) -> Result<Command, Fault>
+    ensures { Gives view_of result (pool_row (map seen arguments.now)) }
 {
     match arguments {
         [pool_value] => Ok(Command::Pool {
@@ -131,8 +131,8 @@ pub fn pool_row(alloc: Global, arguments: &[Value]) -> Result<Command, Fault>
     }
 }
 
-pub fn balance(alloc: Global, arguments: &[Value]) -> Result<Command, Fault>
-    ensures { Gives view_of result (balance_row (map view arguments.now)) }
+pub fn balance(alloc: Global, arguments: &[Value<'_>]) -> Result<Command, Fault>
+    ensures { Gives view_of result (balance_row (map seen arguments.now)) }
 {
     match arguments {
         [asset_value, holder_value] => Ok(Command::Balance {
@@ -143,8 +143,8 @@ pub fn balance(alloc: Global, arguments: &[Value]) -> Result<Command, Fault>
     }
 }
 
-pub fn total(alloc: Global, arguments: &[Value]) -> Result<Command, Fault>
-    ensures { Gives view_of result (total_row (map view arguments.now)) }
+pub fn total(alloc: Global, arguments: &[Value<'_>]) -> Result<Command, Fault>
+    ensures { Gives view_of result (total_row (map seen arguments.now)) }
 {
     match arguments {
         [asset_value] => Ok(Command::Total {

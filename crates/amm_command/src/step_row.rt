@@ -1,18 +1,18 @@
 //! The rows that a step can be.
 ghost use Rattle.std.specs.Prelude.{◌≡◌, map, [], ◌∷◌};
-ghost use Rattle.serde_json.specs.View.{view};
 ghost use Rattle.amm_model.specs.Outcome.{Gives};
 ghost use Rattle.amm_model.specs.CommandView.{move_of_step};
 ghost use Rattle.amm_model.specs.Reading.{transfer_row, create_row, mint_row, burn_row, swap_row, skim_row, sync_row, swap_in_row, swap_out_row, settle_row, add_row, remove_row};
+ghost use Rattle.amm_command.specs.Seen.{seen};
 
 use crate::form::{MISFIT, amount, asset, fee_behind, holder, pool, token};
 use crate::path::path;
 use amm_model::{AddWant, Fault, RemoveWant, Step};
-use serde_json::Value;
+use json::Value;
 use std::alloc::Global;
 
-pub fn transfer(alloc: Global, arguments: &[Value]) -> Result<Step, Fault>
-    ensures { Gives move_of_step result (transfer_row (map view arguments.now)) }
+pub fn transfer(alloc: Global, arguments: &[Value<'_>]) -> Result<Step, Fault>
+    ensures { Gives move_of_step result (transfer_row (map seen arguments.now)) }
 {
     match arguments {
         [asset_value, to_value, n_value] => Ok(Step::Transfer {
@@ -24,8 +24,8 @@ pub fn transfer(alloc: Global, arguments: &[Value]) -> Result<Step, Fault>
     }
 }
 
-pub fn create(alloc: Global, arguments: &[Value]) -> Result<Step, Fault>
-    ensures { Gives move_of_step result (create_row (map view arguments.now)) }
+pub fn create(alloc: Global, arguments: &[Value<'_>]) -> Result<Step, Fault>
+    ensures { Gives move_of_step result (create_row (map seen arguments.now)) }
 {
     match arguments {
         [a_value, b_value, rest @ ..] => Ok(Step::Create {
@@ -37,8 +37,8 @@ pub fn create(alloc: Global, arguments: &[Value]) -> Result<Step, Fault>
     }
 }
 
-pub fn mint(alloc: Global, arguments: &[Value]) -> Result<Step, Fault>
-    ensures { Gives move_of_step result (mint_row (map view arguments.now)) }
+pub fn mint(alloc: Global, arguments: &[Value<'_>]) -> Result<Step, Fault>
+    ensures { Gives move_of_step result (mint_row (map seen arguments.now)) }
 {
     match arguments {
         [pool_value, to_value] => {
@@ -50,8 +50,8 @@ pub fn mint(alloc: Global, arguments: &[Value]) -> Result<Step, Fault>
     }
 }
 
-pub fn burn(alloc: Global, arguments: &[Value]) -> Result<Step, Fault>
-    ensures { Gives move_of_step result (burn_row (map view arguments.now)) }
+pub fn burn(alloc: Global, arguments: &[Value<'_>]) -> Result<Step, Fault>
+    ensures { Gives move_of_step result (burn_row (map seen arguments.now)) }
 {
     match arguments {
         [pool_value, to_value] => {
@@ -63,8 +63,8 @@ pub fn burn(alloc: Global, arguments: &[Value]) -> Result<Step, Fault>
     }
 }
 
-pub fn swap(alloc: Global, arguments: &[Value]) -> Result<Step, Fault>
-    ensures { Gives move_of_step result (swap_row (map view arguments.now)) }
+pub fn swap(alloc: Global, arguments: &[Value<'_>]) -> Result<Step, Fault>
+    ensures { Gives move_of_step result (swap_row (map seen arguments.now)) }
 {
     match arguments {
         [pool, out0, out1, to] => swap_of(alloc, pool, out0, out1, to),
@@ -74,13 +74,13 @@ pub fn swap(alloc: Global, arguments: &[Value]) -> Result<Step, Fault>
 
 fn swap_of(
     alloc: Global,
-    pool_value: &Value,
-    out0: &Value,
-    out1: &Value,
-    to: &Value,
+    pool_value: &Value<'_>,
+    out0: &Value<'_>,
+    out1: &Value<'_>,
+    to: &Value<'_>,
 ) -> Result<Step, Fault>
-    ensures { Gives move_of_step result (swap_row (view pool_value.now ∷ view out0.now
-        ∷ view out1.now ∷ view to.now ∷ [])) }
+    ensures { Gives move_of_step result (swap_row (seen pool_value.now ∷ seen out0.now
+        ∷ seen out1.now ∷ seen to.now ∷ [])) }
 {
     Ok(Step::Swap {
         pool: pool(alloc, pool_value)?,
@@ -90,8 +90,8 @@ fn swap_of(
     })
 }
 
-pub fn skim(alloc: Global, arguments: &[Value]) -> Result<Step, Fault>
-    ensures { Gives move_of_step result (skim_row (map view arguments.now)) }
+pub fn skim(alloc: Global, arguments: &[Value<'_>]) -> Result<Step, Fault>
+    ensures { Gives move_of_step result (skim_row (map seen arguments.now)) }
 {
     match arguments {
         [pool_value, to_value] => {
@@ -103,8 +103,8 @@ pub fn skim(alloc: Global, arguments: &[Value]) -> Result<Step, Fault>
     }
 }
 
-pub fn sync(alloc: Global, arguments: &[Value]) -> Result<Step, Fault>
-    ensures { Gives move_of_step result (sync_row (map view arguments.now)) }
+pub fn sync(alloc: Global, arguments: &[Value<'_>]) -> Result<Step, Fault>
+    ensures { Gives move_of_step result (sync_row (map seen arguments.now)) }
 {
     match arguments {
         [pool_value] => Ok(Step::Sync {
@@ -114,8 +114,8 @@ pub fn sync(alloc: Global, arguments: &[Value]) -> Result<Step, Fault>
     }
 }
 
-pub fn swap_in(alloc: Global, arguments: &[Value]) -> Result<Step, Fault>
-    ensures { Gives move_of_step result (swap_in_row (map view arguments.now)) }
+pub fn swap_in(alloc: Global, arguments: &[Value<'_>]) -> Result<Step, Fault>
+    ensures { Gives move_of_step result (swap_in_row (map seen arguments.now)) }
 {
     match arguments {
         [path, x, min, to, deadline] => swap_in_of(alloc, path, x, min, to, deadline),
@@ -125,14 +125,14 @@ pub fn swap_in(alloc: Global, arguments: &[Value]) -> Result<Step, Fault>
 
 fn swap_in_of(
     alloc: Global,
-    path_value: &Value,
-    x: &Value,
-    min: &Value,
-    to: &Value,
-    deadline: &Value,
+    path_value: &Value<'_>,
+    x: &Value<'_>,
+    min: &Value<'_>,
+    to: &Value<'_>,
+    deadline: &Value<'_>,
 ) -> Result<Step, Fault>
-    ensures { Gives move_of_step result (swap_in_row (view path_value.now ∷ view x.now
-        ∷ view min.now ∷ view to.now ∷ view deadline.now ∷ [])) }
+    ensures { Gives move_of_step result (swap_in_row (seen path_value.now ∷ seen x.now
+        ∷ seen min.now ∷ seen to.now ∷ seen deadline.now ∷ [])) }
 {
     Ok(Step::SwapIn {
         path: path(alloc, path_value)?,
@@ -143,8 +143,8 @@ fn swap_in_of(
     })
 }
 
-pub fn swap_out(alloc: Global, arguments: &[Value]) -> Result<Step, Fault>
-    ensures { Gives move_of_step result (swap_out_row (map view arguments.now)) }
+pub fn swap_out(alloc: Global, arguments: &[Value<'_>]) -> Result<Step, Fault>
+    ensures { Gives move_of_step result (swap_out_row (map seen arguments.now)) }
 {
     match arguments {
         [path, y, max, to, deadline] => swap_out_of(alloc, path, y, max, to, deadline),
@@ -154,14 +154,14 @@ pub fn swap_out(alloc: Global, arguments: &[Value]) -> Result<Step, Fault>
 
 fn swap_out_of(
     alloc: Global,
-    path_value: &Value,
-    y: &Value,
-    max: &Value,
-    to: &Value,
-    deadline: &Value,
+    path_value: &Value<'_>,
+    y: &Value<'_>,
+    max: &Value<'_>,
+    to: &Value<'_>,
+    deadline: &Value<'_>,
 ) -> Result<Step, Fault>
-    ensures { Gives move_of_step result (swap_out_row (view path_value.now ∷ view y.now
-        ∷ view max.now ∷ view to.now ∷ view deadline.now ∷ [])) }
+    ensures { Gives move_of_step result (swap_out_row (seen path_value.now ∷ seen y.now
+        ∷ seen max.now ∷ seen to.now ∷ seen deadline.now ∷ [])) }
 {
     Ok(Step::SwapOut {
         path: path(alloc, path_value)?,
@@ -172,8 +172,8 @@ fn swap_out_of(
     })
 }
 
-pub fn settle(arguments: &[Value]) -> Result<Step, Fault>
-    ensures { Gives move_of_step result (settle_row (map view arguments.now)) }
+pub fn settle(arguments: &[Value<'_>]) -> Result<Step, Fault>
+    ensures { Gives move_of_step result (settle_row (map seen arguments.now)) }
 {
     match arguments {
         [quote_value, deadline_value] => Ok(Step::Settle {
@@ -184,8 +184,8 @@ pub fn settle(arguments: &[Value]) -> Result<Step, Fault>
     }
 }
 
-pub fn add(alloc: Global, arguments: &[Value]) -> Result<Step, Fault>
-    ensures { Gives move_of_step result (add_row (map view arguments.now)) }
+pub fn add(alloc: Global, arguments: &[Value<'_>]) -> Result<Step, Fault>
+    ensures { Gives move_of_step result (add_row (map seen arguments.now)) }
 {
     match arguments {
         [
@@ -207,19 +207,19 @@ pub fn add(alloc: Global, arguments: &[Value]) -> Result<Step, Fault>
 
 fn add_of(
     alloc: Global,
-    a: &Value,
-    b: &Value,
-    a_desired: &Value,
-    b_desired: &Value,
-    a_min: &Value,
-    b_min: &Value,
-    to: &Value,
-    deadline: &Value,
-    rest: &[Value],
+    a: &Value<'_>,
+    b: &Value<'_>,
+    a_desired: &Value<'_>,
+    b_desired: &Value<'_>,
+    a_min: &Value<'_>,
+    b_min: &Value<'_>,
+    to: &Value<'_>,
+    deadline: &Value<'_>,
+    rest: &[Value<'_>],
 ) -> Result<Step, Fault>
-    ensures { Gives move_of_step result (add_row (view a.now ∷ view b.now ∷ view a_desired.now
-        ∷ view b_desired.now ∷ view a_min.now ∷ view b_min.now ∷ view to.now
-        ∷ view deadline.now ∷ map view rest.now)) }
+    ensures { Gives move_of_step result (add_row (seen a.now ∷ seen b.now ∷ seen a_desired.now
+        ∷ seen b_desired.now ∷ seen a_min.now ∷ seen b_min.now ∷ seen to.now
+        ∷ seen deadline.now ∷ map seen rest.now)) }
 {
     let a = token(alloc, a)?;
     let b = token(alloc, b)?;
@@ -242,8 +242,8 @@ fn add_of(
     Ok(Step::Add { want, to, deadline })
 }
 
-pub fn remove(alloc: Global, arguments: &[Value]) -> Result<Step, Fault>
-    ensures { Gives move_of_step result (remove_row (map view arguments.now)) }
+pub fn remove(alloc: Global, arguments: &[Value<'_>]) -> Result<Step, Fault>
+    ensures { Gives move_of_step result (remove_row (map seen arguments.now)) }
 {
     match arguments {
         [a, b, shares, a_min, b_min, to, deadline, rest @ ..] => {
@@ -255,18 +255,18 @@ pub fn remove(alloc: Global, arguments: &[Value]) -> Result<Step, Fault>
 
 fn remove_of(
     alloc: Global,
-    a: &Value,
-    b: &Value,
-    shares: &Value,
-    a_min: &Value,
-    b_min: &Value,
-    to: &Value,
-    deadline: &Value,
-    rest: &[Value],
+    a: &Value<'_>,
+    b: &Value<'_>,
+    shares: &Value<'_>,
+    a_min: &Value<'_>,
+    b_min: &Value<'_>,
+    to: &Value<'_>,
+    deadline: &Value<'_>,
+    rest: &[Value<'_>],
 ) -> Result<Step, Fault>
-    ensures { Gives move_of_step result (remove_row (view a.now ∷ view b.now ∷ view shares.now
-        ∷ view a_min.now ∷ view b_min.now ∷ view to.now ∷ view deadline.now
-        ∷ map view rest.now)) }
+    ensures { Gives move_of_step result (remove_row (seen a.now ∷ seen b.now ∷ seen shares.now
+        ∷ seen a_min.now ∷ seen b_min.now ∷ seen to.now ∷ seen deadline.now
+        ∷ map seen rest.now)) }
 {
     let a = token(alloc, a)?;
     let b = token(alloc, b)?;

@@ -1,5 +1,5 @@
 //! Which lines are commands: damaged ones, the forms of fees and paths, and loans in loans.
-use crate::read_line;
+use crate::{LineReader, read_line};
 use amm_model::{Command, Fault, RoutePath};
 use std::alloc::{AllocError, Global};
 use std::test::Fail;
@@ -66,6 +66,38 @@ fn no_json(rt: HostRuntime) -> Result<(), Fail> {
     );
     assert_eq!(rt; code(rt.alloc(), &brackets(rt.alloc(), 127)?), 2);
     assert_eq!(rt; code(rt.alloc(), &brackets(rt.alloc(), 128)?), 1);
+    Ok(())
+}
+
+#[test]
+fn numbers_out_of_range(rt: HostRuntime) {
+    for (line, want) in [
+        ("[\"deposit\",\"alice\",\"ETH\",{\"a\":[true,1e999]}]", 1),
+        ("{\"a\":1e999,\"a\":1}", 1),
+        ("[[-1e999]]", 1),
+        ("[\"time\",1e308]", 2),
+        ("[\"time\",-18446744073709551616]", 2),
+        ("[\"time\",\"1e999\"]", 2),
+        ("{\"1e999\":[1e-999,null]}", 2),
+    ] {
+        assert_eq!(rt; code(rt.alloc(), line.as_bytes()), want, "{line}");
+    }
+}
+
+/// What was read of a line before leaves no trace in the next.
+#[test]
+fn lines_one_after_another(rt: HostRuntime) -> Result<(), Fail> {
+    let mut reader = LineReader::new(rt.alloc())?;
+    for (line, want) in [
+        ("[\"setter\",\"\\u0061dmin\",\"b\\u006fb\"]", true),
+        ("[\"setter\",\"\\u0061\"", false),
+        ("[\"time\",0]", true),
+        ("[", false),
+        ("[\"setter\",\"admin\",\"al\\u0069ce\"]", true),
+    ] {
+        let result = reader.read(rt.alloc(), line.as_bytes());
+        assert_eq!(rt; result.is_ok(), want, "{line}");
+    }
     Ok(())
 }
 
