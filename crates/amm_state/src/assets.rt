@@ -6,6 +6,7 @@ ghost use Rattle.amm_model.specs.Ledger.{amount, sum_held, holdings_of, total_li
 ghost use Rattle.amm_state.specs.Assets.{with_amount, has_row};
 ghost use Rattle.amm_state.specs.Rows.{Because};
 
+use crate::Seed;
 use crate::rows::{AssetRows, Before};
 use amm_model::{Fault, Refusal};
 use amm_names::{Asset, Holder};
@@ -17,7 +18,7 @@ use std::marker::Model;
 /// A change finds its asset once, and each row once.
 #[derive(Drop)]
 pub(crate) struct Assets {
-    tables: IndexMap<Asset, AssetRows>,
+    tables: IndexMap<Asset, AssetRows, Seed>,
 }
 
 impl Model for Assets {
@@ -32,11 +33,11 @@ impl Model for Assets {
 
 impl Assets {
     /// Nobody has anything.
-    pub fn new(alloc: Global) -> Assets
+    pub fn new(alloc: Global, seed: Seed) -> Assets
         ensures { result ≡ record { holdings = map.empty; rows = map.empty } }
     {
         Assets {
-            tables: IndexMap::new(alloc),
+            tables: IndexMap::with_hasher(alloc, seed),
         }
     }
 
@@ -74,7 +75,7 @@ impl Assets {
         if let Some(rows) = self.tables.get_mut(asset) {
             return rows.issue(to, n);
         }
-        let mut rows = AssetRows::new(alloc);
+        let mut rows = AssetRows::new(alloc, *self.tables.hasher());
         let before = rows.issue(to, n)?;
         self.tables.insert(*asset, rows)?;
         Ok(before)

@@ -11,6 +11,7 @@ ghost use Rattle.std.specs.Map.{values_of};
 ghost use Rattle.std.specs.Map.Iter.{deref_pair};
 ghost use Rattle.std.specs.Option.{option_copied, option_map};
 
+use crate::Seed;
 use crate::assets::Assets;
 use crate::rows::Before;
 use amm_model::{Fault, PairRecord};
@@ -25,8 +26,8 @@ use std::mem::replace;
 #[derive(Drop)]
 pub struct Book {
     assets: Assets,
-    tokens: IndexSet<TokenName>,
-    pairs: IndexMap<PoolName, PairRecord>,
+    tokens: IndexSet<TokenName, Seed>,
+    pairs: IndexMap<PoolName, PairRecord, Seed>,
     fee_to: Holder,
     setter: UserName,
     time: u64,
@@ -45,7 +46,7 @@ impl Model for Book {
 
 // Writes the record of a pool, if it has a pair, and gives the one that stood there.
 fn replace_record(
-    pairs: &mut IndexMap<PoolName, PairRecord>,
+    pairs: &mut IndexMap<PoolName, PairRecord, Seed>,
     pool: &PoolName,
     pair: PairRecord,
 ) -> Option<PairRecord>
@@ -60,13 +61,13 @@ fn replace_record(
 
 impl Book {
     /// A book in which nobody has anything.
-    pub(crate) fn new(alloc: Global, setter: UserName) -> Book
+    pub(crate) fn new(alloc: Global, setter: UserName, seed: Seed) -> Book
         ensures { result ≡ record { ledger = with_setter opening_ledger setter; rows = map.empty } }
     {
         Book {
-            assets: Assets::new(alloc),
-            tokens: IndexSet::new(alloc),
-            pairs: IndexMap::new(alloc),
+            assets: Assets::new(alloc, seed),
+            tokens: IndexSet::with_hasher(alloc, seed),
+            pairs: IndexMap::with_hasher(alloc, seed),
             fee_to: Holder::Zero,
             setter,
             time: 0,

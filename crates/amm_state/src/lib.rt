@@ -10,6 +10,7 @@ mod book;
 mod journal;
 mod mark;
 mod rows;
+mod seed;
 mod state;
 #[cfg(test)]
 mod tests;
@@ -17,5 +18,6 @@ mod tx;
 
 pub use book::Book;
 pub use mark::Mark;
+pub use seed::Seed;
 pub use state::State;
 pub use tx::Tx;

@@ -6,6 +6,7 @@ ghost use Rattle.amm_model.specs.declared.fault.Refusal.TheVariants as refusal;
 ghost use Rattle.amm_model.specs.Ledger.{amount, sum_held, total_limit};
 ghost use Rattle.amm_state.specs.Rows.{table_of, empty_table, with_row, Because};
 
+use crate::Seed;
 use amm_model::{Fault, Refusal};
 use amm_names::{Holder, Memory};
 use indexmap::IndexMap;
@@ -19,7 +20,7 @@ const TOTAL_LIMIT: u64 = 4503599627370495;
 #[derive(Drop)]
 pub(crate) struct AssetRows {
     total: u64,
-    rows: IndexMap<Holder, u64>,
+    rows: IndexMap<Holder, u64, Seed>,
 }
 
 impl Model for AssetRows {
@@ -45,7 +46,7 @@ pub(crate) struct Before {
 }
 
 // Writes the row of a holder, if it has one, and gives what stood there.
-fn replace_amount(rows: &mut IndexMap<Holder, u64>, holder: &Holder, n: u64) -> Option<u64>
+fn replace_amount(rows: &mut IndexMap<Holder, u64, Seed>, holder: &Holder, n: u64) -> Option<u64>
     ensures found { is_some result ≡ set.contains (table_of rows.old.entries).rows holder.now }
     ensures before { IfSome result (λ before. before ≡ amount (table_of rows.old.entries).held holder.now) }
     ensures written { IfSome result (λ _. table_of rows.new.entries ≡ with_row (table_of rows.old.entries) holder.now n) }
@@ -57,7 +58,7 @@ fn replace_amount(rows: &mut IndexMap<Holder, u64>, holder: &Holder, n: u64) -> 
 }
 
 // Takes n units from a holder that has so many, and gives what it had.
-fn take_units(rows: &mut IndexMap<Holder, u64>, from: &Holder, n: u64) -> Option<u64>
+fn take_units(rows: &mut IndexMap<Holder, u64, Seed>, from: &Holder, n: u64) -> Option<u64>
     requires { 0 < n }
     ensures before { IfSome result (λ before. before ≡ amount (table_of rows.old.entries).held from.now) }
     ensures funds { IfSome result (λ before. n ≤ before) }
@@ -78,7 +79,7 @@ fn take_units(rows: &mut IndexMap<Holder, u64>, from: &Holder, n: u64) -> Option
 }
 
 // Adds n units at a holder, and gives what it had. A row that is there takes no memory.
-fn add_units(rows: &mut IndexMap<Holder, u64>, to: &Holder, n: u64) -> Result<u64, Memory>
+fn add_units(rows: &mut IndexMap<Holder, u64, Seed>, to: &Holder, n: u64) -> Result<u64, Memory>
     requires { amount (table_of rows.old.entries).held to.now + n ≤ total_limit }
     ensures before { IfOk result (λ before. before ≡ amount (table_of rows.old.entries).held to.now) }
     ensures added { IfOk result (λ before. table_of rows.new.entries ≡ with_row (table_of rows.old.entries) to.now (before + n)) }
@@ -95,12 +96,12 @@ fn add_units(rows: &mut IndexMap<Holder, u64>, to: &Holder, n: u64) -> Result<u6
 }
 
 impl AssetRows {
-    pub fn new(alloc: Global) -> AssetRows
+    pub fn new(alloc: Global, seed: Seed) -> AssetRows
         ensures { result ≡ empty_table }
     {
         AssetRows {
             total: 0,
-            rows: IndexMap::new(alloc),
+            rows: IndexMap::with_hasher(alloc, seed),
         }
     }
 

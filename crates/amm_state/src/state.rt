@@ -3,8 +3,8 @@ ghost use Rattle.std.specs.Prelude.{◌≡◌, IfOk};
 ghost use Rattle.amm_model.specs.Ledger.{opening_ledger};
 ghost use Rattle.amm_model.specs.Sound.{IsAtRest};
 
-use crate::Book;
 use crate::journal::Journal;
+use crate::{Book, Seed};
 use amm_names::{Memory, UserName};
 use std::alloc::Global;
 use std::marker::Model;
@@ -38,9 +38,16 @@ impl State {
     pub fn new(alloc: Global) -> Result<State, Memory>
         ensures { IfOk result (λ state. state ≡ opening_ledger) }
     {
+        State::with_seed(alloc, Seed::new(0))
+    }
+
+    /// The same, whose tables hash by this seed. It decides only where rows lie in the tables, and no clause speaks of it.
+    pub fn with_seed(alloc: Global, seed: Seed) -> Result<State, Memory>
+        ensures { IfOk result (λ state. state ≡ opening_ledger) }
+    {
         let setter = UserName::read(alloc, b"admin".as_slice())?.unwrap();
         Ok(State {
-            book: Book::new(alloc, setter),
+            book: Book::new(alloc, setter, seed),
             journal: Journal::new(alloc),
         })
     }

@@ -1,7 +1,7 @@
 ghost use Rattle.std.specs.Prelude.{◌≡◌, OnOk};
 ghost use Rattle.amm_state.specs.declared.mark.Mark.{Mark};
 
-use crate::{Book, Mark, State, Tx};
+use crate::{Book, Mark, Seed, State, Tx};
 use amm_model::{Fault, Refusal};
 use amm_names::{Asset, Holder, PoolName, TokenName, UserName};
 use std::alloc::Global;
@@ -101,6 +101,38 @@ fn takes_moves_back(rt: HostRuntime) -> Result<(), Fail> {
     let shown = shows_moves(tx.book(), &token, &from);
     let state = tx.rollback();
     assert!(&rt; done && shown && is_opening(state.book(), &Asset::Token(token)));
+    Ok(())
+}
+
+// Four calls that change nothing after one that does, and one that is refused.
+fn idles(alloc: Global, tx: &mut Tx, asset: &Asset, from: &Holder) -> Result<(), Fault>
+    requires { tx.old.mark ≡ Mark.Clean }
+{
+    tx.issue(alloc, asset, from, 5)?;
+    tx.move_units(alloc, asset, from, &Holder::Zero, 0)?;
+    tx.move_units(alloc, asset, from, from, 0)?;
+    tx.move_units(alloc, asset, from, from, 5)?;
+    tx.retire(alloc, asset, &Holder::Zero, 0)?;
+    tx.move_units(alloc, asset, from, from, 6)
+}
+
+#[test]
+fn moves_nothing(rt: HostRuntime) -> Result<(), Fail> {
+    let alloc = rt.alloc();
+    let asset = Asset::Token(token(alloc)?);
+    let from = user(alloc, 1)?;
+    let state = match State::with_seed(alloc, Seed::new(7)) {
+        Ok(state) => state,
+        Err(_) => return Err("no memory")?,
+    };
+    let mut tx = Tx::begin(state);
+    let refused = matches!(
+        idles(alloc, &mut tx, &asset, &from),
+        Err(Fault::Refused(Refusal::Funds))
+    );
+    let amount = tx.book().balance(&asset, &from);
+    let state = tx.rollback();
+    assert!(&rt; refused && amount == 5 && is_opening(state.book(), &asset));
     Ok(())
 }
 

@@ -3,4 +3,4 @@ use Rattle.amm_state.proofs.assets.Assets.new.Goals as goal
 
 pub returns : goal.returns
 unfolding holdings_in rows_in
-returns c = rw c.new.ensures.empty
+returns c = rw c.with_hasher.ensures.empty

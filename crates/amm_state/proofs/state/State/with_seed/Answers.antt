@@ -4,7 +4,7 @@ use Rattle.amm_model.specs.Ledger.{opening_ledger, with_setter}
 use Rattle.amm_model.specs.Sound.{IsSound, IsAtRest}
 use Rattle.amm_model.proofs.LedgerLemmas.{total-nothing}
 use Rattle.amm_state.proofs.Canonical.{canonical-opening}
-use Rattle.amm_state.proofs.state.State.new.Goals as goal
+use Rattle.amm_state.proofs.state.State.with_seed.Goals as goal
 
 opening_sound : (setter : List ℕ) → IsSound (with_setter opening_ledger setter)
 opening_sound setter = record {
