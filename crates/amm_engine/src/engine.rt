@@ -51,7 +51,7 @@ impl Engine {
     pub fn new(alloc: Global) -> Result<Engine, Memory>
         ensures { IfOk result (λ engine. engine ≡ opening_ledger) }
     {
-        Engine::with_seed(alloc, Seed::FIXED)
+        Engine::with_seed(alloc, Seed::new(0))
     }
 
     /// The same, whose tables hash from a seed.

@@ -45,7 +45,7 @@ fn seed(rt: &HostRuntime) -> Seed {
     let mut bytes = [0; 8];
     match rt.fill_bytes(&mut bytes) {
         Ok(()) => Seed::new(u64::from_le_bytes(bytes)),
-        Err(_) => Seed::FIXED,
+        Err(_) => Seed::new(0),
     }
 }
 

@@ -59,7 +59,7 @@ fn writes_whole_replies_up_to_a_failed_write(rt: HostRuntime) -> Result<(), Fail
         let mut sink = MemSink::new(rt.alloc(), vec![in rt.alloc(); j as u64]?);
         let status = exchange(
             rt.alloc(),
-            Seed::FIXED,
+            Seed::new(0),
             words.as_slice(),
             &mut source,
             &mut sink,
@@ -87,7 +87,7 @@ fn answers_the_lines_ended_before_a_failed_read(rt: HostRuntime) -> Result<(), F
         let mut sink = SureSink::new(rt.alloc());
         let status = exchange(
             rt.alloc(),
-            Seed::FIXED,
+            Seed::new(0),
             words.as_slice(),
             &mut source,
             &mut sink,

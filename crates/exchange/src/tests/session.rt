@@ -36,7 +36,7 @@ pub fn is_run(rt: &HostRuntime, input: Vec<u8>, output: &[u8]) -> Result<bool, F
     let mut sink = SureSink::new(rt.alloc());
     let status = exchange(
         rt.alloc(),
-        Seed::FIXED,
+        Seed::new(0),
         words.as_slice(),
         &mut source,
         &mut sink,
