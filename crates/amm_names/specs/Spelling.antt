@@ -82,7 +82,7 @@ fee_of_tail b fee token (inr (inl e)) = rw (e, append-nil b, after_none (λ x. x
 fee_of_tail b fee token (inr (inr e)) = rw (e, after_stop (λ x. x == 58) b 58 (49 ∷ 48 ∷ []) (free_of 58 refl b token) refl) refl
 
 module _ (a b : List ℕ) (fee : ℕ) (pool : IsPool a b fee) where
-  tail_of_spelling : after_first (λ x. x == 47) (pool_spelling a b fee) ≡ b ++ fee_spelling fee
+  pub tail_of_spelling : after_first (λ x. x == 47) (pool_spelling a b fee) ≡ b ++ fee_spelling fee
   tail_of_spelling = after_stop (λ x. x == 47) a 47 (b ++ fee_spelling fee) (free_of 47 refl a pool.first) refl
 
   pub token0_of_spelling : pool_token0 (pool_spelling a b fee) ≡ a

@@ -1,8 +1,8 @@
 //! The name of a pool: its two tokens and its fee.
-ghost use Rattle.std.specs.Prelude.{◌≡◌, IfOk, IsTrue, IsUtf8, Some, None, if◌then◌else◌, ◌==◌};
+ghost use Rattle.std.specs.Prelude.{◌≡◌, ◌≢◌, ℕ, [], ◌∷◌, ◌++◌, IfOk, MatchOption, IsTrue, IsUtf8, Some, None, if◌then◌else◌, ◌==◌};
 ghost use Rattle.std.specs.List.{position, before_first, after_first};
 ghost use Rattle.amm_names.specs.Names.{is_token_name};
-ghost use Rattle.amm_names.specs.Pools.{pool_spelling, is_before, is_fee, fee_spelling, fee_of_digits, pool_between, is_pool_name, pool_token0, pool_token1, pool_fee};
+ghost use Rattle.amm_names.specs.Pools.{pool_spelling, is_before, is_fee, fee_spelling, pool_between, is_pool_name, pool_token0, pool_token1, pool_fee};
 
 use super::TokenName;
 use super::text::Text;
@@ -43,32 +43,32 @@ fn place(bytes: &[u8], stop: u8) -> Option<usize>
     bytes.iter().position(|b| *b == stop)
 }
 
-fn before(bytes: &[u8], stop: u8) -> &[u8]
-    ensures { result.now ≡ before_first (λ b. b == stop) bytes.now }
+/// What stands before the first such byte and what stands behind it, if there is one.
+fn split_once(bytes: &[u8], stop: u8) -> Option<(&[u8], &[u8])>
+    ensures { MatchOption result (before_first (λ b. b == stop) bytes.now ≡ bytes.now × after_first (λ b. b == stop) bytes.now ≡ []) (λ parts. parts.0.now ≡ before_first (λ b. b == stop) bytes.now × parts.1.now ≡ after_first (λ b. b == stop) bytes.now × bytes.now ≡ parts.0.now ++ stop ∷ parts.1.now) }
 {
-    match place(bytes, stop) {
-        Some(at) => &bytes[..at],
-        None => bytes,
-    }
+    let at = place(bytes, stop)?;
+    Some((&bytes[..at], &bytes[at + 1..]))
 }
 
-fn after(bytes: &[u8], stop: u8) -> &[u8]
-    ensures { result.now ≡ after_first (λ b. b == stop) bytes.now }
-{
-    match place(bytes, stop) {
-        Some(at) => &bytes[at + 1..],
-        None => &[],
-    }
-}
-
-fn fee_of_digits(digits: &[u8]) -> u8
-    ensures value { result ≡ fee_of_digits digits.now }
-    ensures fee { IsTrue (is_fee result) }
+/// The fee that these digits behind a colon spell, if they do.
+fn fee_of_digits(digits: &[u8]) -> Option<u8>
+    ensures { MatchOption result ((fee : ℕ) → IsTrue (is_fee fee) → 58 ∷ digits.now ≢ fee_spelling fee) (λ fee. IsTrue (is_fee fee) × (58 ∷ digits.now ≡ fee_spelling fee)) }
 {
     match digits {
-        b"1" => 1,
-        b"10" => 10,
-        _ => 3,
+        b"1" => Some(1),
+        b"10" => Some(10),
+        _ => None,
+    }
+}
+
+/// The second token's bytes and the fee, if what stands behind those bytes spells one.
+fn split_fee(tail: &[u8]) -> Option<(&[u8], u8)>
+    ensures { let second = before_first (λ b. b == 58) tail.now in MatchOption result ((fee : ℕ) → IsTrue (is_fee fee) → tail.now ≢ second ++ fee_spelling fee) (λ parts. parts.0.now ≡ second × IsTrue (is_fee parts.1) × tail.now ≡ second ++ fee_spelling parts.1) }
+{
+    match split_once(tail, b':') {
+        Some((second, digits)) => Some((second, fee_of_digits(digits)?)),
+        None => Some((tail, 3)),
     }
 }
 
@@ -101,26 +101,31 @@ fn spell(token0: TokenName, token1: TokenName, fee: u8) -> PoolName
 }
 
 impl PoolName {
+    /// The name that the bytes spell, if they do.
+    #[tactic(auto, unfolding(crate::specs::Pools::is_pool_name, crate::specs::Pools::pool_token0, crate::specs::Pools::pool_token1))]
+    fn parse(bytes: &[u8]) -> Option<PoolName>
+        ensures { result ≡ (if is_pool_name bytes.now then Some bytes.now else None) }
+    {
+        let (first, tail) = split_once(bytes, b'/')?;
+        let (second, fee) = split_fee(tail)?;
+        let token0 = TokenName::of(first)?;
+        let token1 = TokenName::of(second)?;
+        if token0 >= token1 {
+            return None;
+        }
+        Some(PoolName {
+            token0,
+            token1,
+            fee,
+            text: Text::new(bytes),
+        })
+    }
+
     /// Reads a name, if the bytes spell one.
-    #[tactic(auto, unfolding(crate::specs::Pools::is_pool_name, crate::specs::Pools::pool_token0, crate::specs::Pools::pool_token1, crate::specs::Pools::pool_fee))]
     pub fn read(alloc: Global, bytes: &[u8]) -> Result<Option<PoolName>, Memory>
         ensures { IfOk result (λ name. name ≡ (if is_pool_name bytes.now then Some bytes.now else None)) }
     {
-        let tail = after(bytes, b'/');
-        let Some(token0) = TokenName::of(before(bytes, b'/')) else {
-            return Ok(None);
-        };
-        let Some(token1) = TokenName::of(before(tail, b':')) else {
-            return Ok(None);
-        };
-        if token0 >= token1 {
-            return Ok(None);
-        }
-        let name = spell(token0, token1, fee_of_digits(after(tail, b':')));
-        if name.as_bytes() != bytes {
-            return Ok(None);
-        }
-        Ok(Some(name))
+        Ok(PoolName::parse(bytes))
     }
 
     /// The name of the pool of two tokens. One token has none with itself.
