@@ -5,3 +5,4 @@ pub mod Minting
 pub mod Shares
 pub mod Burning
 pub mod Laters
+mod Straight

@@ -1,15 +1,16 @@
 //! Loans and swaps: a pool lends under its lock, and is paid back.
-ghost use Rattle.std.specs.Prelude.{◌≡◌, ◌≢◌, ◌≤◌, true, Some, IfOk, OnOk, OnErr};
+ghost use Rattle.std.specs.Prelude.{◌≡◌, ◌≢◌, ◌≤◌, true, Some, IsSome, IfOk, OnOk, OnErr};
 ghost use Rattle.amm_model.specs.Ledger.{pair_of};
 ghost use Rattle.amm_model.specs.Operations.{lend, open_loan, give_back, swap, came_to, is_token_of};
-ghost use Rattle.amm_model.specs.Sound.{IsSound, IsOpen, ProductKept};
+ghost use Rattle.amm_pair.specs.Straight.{both_sent, lendable, lend_straight, settled, swap_straight};
+ghost use Rattle.amm_model.specs.Sound.{IsSmall, IsSound, IsOpen, ProductKept};
 ghost use Rattle.amm_state.specs.Tx.{Meets};
 
 use crate::holdings::{held0, held1, send0, send1};
 use crate::records::{free_pair, updated};
 use amm_model::{Fault, Holder, PairRecord, PoolName, Refusal, SwapReceipt};
 use amm_pool::admits;
-use amm_state::{Mark, Tx};
+use amm_state::{Book, Mark, Tx};
 use std::alloc::Global;
 use std::marker::Model;
 
@@ -31,12 +32,12 @@ pub fn swap(
     ensures sound { OnOk result (IsSound tx.new.present) }
     ensures product { OnOk result (ProductKept tx.old.present tx.new.present pool.now) }
 {
-    swap_at(alloc, tx, pool, out0, out1, to)
+    swap_straight(alloc, tx, pool, out0, out1, to)
 }
 
-// The same, as its definition says.
-#[tactic(auto, unfolding(amm_model::specs::Operations::swap))]
-fn swap_at(
+// The same with no lock, since nothing runs between the two halves.
+#[tactic(auto, unfolding(crate::specs::Straight::swap_straight))]
+fn swap_straight(
     alloc: Global,
     tx: &mut Tx,
     pool: &PoolName,
@@ -46,10 +47,41 @@ fn swap_at(
 ) -> Result<SwapReceipt, Fault>
     requires clean { tx.old.mark ≡ Mark.Clean }
     requires sound { IsSound tx.old.present }
-    ensures { Meets tx.old tx.new result (swap tx.old.present pool.now out0 out1 to.now) }
+    ensures { Meets tx.old tx.new result (swap_straight tx.old.present pool.now out0 out1 to.now) }
 {
-    let pair = lend_at(alloc, tx, pool, out0, out1, to)?;
-    give_back_at(alloc, tx, pool, &pair, out0, out1)
+    let pair = match lendable(tx.book(), pool, out0, out1, to) {
+        Ok(pair) => pair,
+        Err(why) => return Err(tx.refuse(why)),
+    };
+    send_both(alloc, tx, pool, out0, out1, to)?;
+    settle(alloc, tx, pool, &pair, out0, out1)
+}
+
+// The pair, if it may lend these outputs to the receiver.
+#[tactic(auto, unfolding(crate::specs::Straight::lendable))]
+fn lendable(
+    book: &Book,
+    pool: &PoolName,
+    out0: u64,
+    out1: u64,
+    to: &Holder,
+) -> Result<PairRecord, Refusal>
+    requires { IsSound book.now.ledger }
+    ensures value { result ≡ lendable book.now.ledger pool.now out0 out1 to.now }
+    ensures there { IfOk result (λ pair. pair_of book.now.ledger.pairs pool.now ≡ Some pair) }
+    ensures small { IfOk result (λ pair. IsSmall pair) }
+{
+    let pair = free_pair(book, pool)?;
+    if out0 == 0 && out1 == 0 {
+        return Err(Refusal::InsufficientOutputAmount);
+    }
+    if pair.r0 <= out0 || pair.r1 <= out1 {
+        return Err(Refusal::InsufficientLiquidity);
+    }
+    if is_token_of(pool, to) {
+        return Err(Refusal::InvalidTo);
+    }
+    Ok(pair)
 }
 
 // Locks the pair and sends what it lends.
@@ -70,7 +102,8 @@ fn lend_at(
     lend_free(alloc, tx, pool, out0, out1, to)
 }
 
-#[tactic(auto, unfolding(amm_model::specs::Operations::lend))]
+// The same, step by step.
+#[tactic(auto, unfolding(crate::specs::Straight::lend_straight, crate::specs::Straight::lend_from))]
 fn lend_free(
     alloc: Global,
     tx: &mut Tx,
@@ -81,29 +114,36 @@ fn lend_free(
 ) -> Result<PairRecord, Fault>
     requires clean { tx.old.mark ≡ Mark.Clean }
     requires sound { IsSound tx.old.present }
-    ensures { Meets tx.old tx.new result (lend tx.old.present pool.now out0 out1 to.now) }
+    ensures { Meets tx.old tx.new result (lend_straight tx.old.present pool.now out0 out1 to.now) }
 {
-    let pair = match free_pair(tx.book(), pool) {
+    let pair = match lendable(tx.book(), pool, out0, out1, to) {
         Ok(pair) => pair,
         Err(why) => return Err(tx.refuse(why)),
     };
-    if out0 == 0 && out1 == 0 {
-        return Err(tx.refuse(Refusal::InsufficientOutputAmount));
-    }
-    if pair.r0 <= out0 || pair.r1 <= out1 {
-        return Err(tx.refuse(Refusal::InsufficientLiquidity));
-    }
-    if is_token_of(pool, to) {
-        return Err(tx.refuse(Refusal::InvalidTo));
-    }
     let pair = PairRecord {
         locked: true,
         ..pair
     };
     tx.set_pair(alloc, pool, pair)?;
-    send0(alloc, tx, pool, to, out0)?;
-    send1(alloc, tx, pool, to, out1)?;
+    send_both(alloc, tx, pool, out0, out1, to)?;
     Ok(pair)
+}
+
+// Sends both outputs.
+#[tactic(auto, unfolding(crate::specs::Straight::both_sent))]
+fn send_both(
+    alloc: Global,
+    tx: &mut Tx,
+    pool: &PoolName,
+    out0: u64,
+    out1: u64,
+    to: &Holder,
+) -> Result<(), Fault>
+    requires { tx.old.mark ≡ Mark.Clean }
+    ensures { Meets tx.old tx.new result (both_sent tx.old.present pool.now out0 out1 to.now) }
+{
+    send0(alloc, tx, pool, to, out0)?;
+    send1(alloc, tx, pool, to, out1)
 }
 
 // Whether the holder is one of the pool's tokens.
@@ -117,7 +157,6 @@ fn is_token_of(pool: &PoolName, to: &Holder) -> bool
 }
 
 // Tests what has come in, and frees the pair.
-#[tactic(auto, unfolding(amm_model::specs::Operations::give_back))]
 fn give_back_at(
     alloc: Global,
     tx: &mut Tx,
@@ -130,6 +169,25 @@ fn give_back_at(
     requires sound { IsSound tx.old.present }
     requires there { pair_of tx.old.present.pairs pool.now ≡ Some pair.now }
     ensures meets { Meets tx.old tx.new result (give_back tx.old.present pool.now out0 out1) }
+    ensures kept { OnErr result (tx.new.present ≡ tx.old.present) }
+{
+    settle(alloc, tx, pool, pair, out0, out1)
+}
+
+// The same for a record that is known, locked or not.
+#[tactic(auto, unfolding(crate::specs::Straight::settled))]
+fn settle(
+    alloc: Global,
+    tx: &mut Tx,
+    pool: &PoolName,
+    pair: &PairRecord,
+    out0: u64,
+    out1: u64,
+) -> Result<SwapReceipt, Fault>
+    requires clean { tx.old.mark ≡ Mark.Clean }
+    requires small { IsSmall pair.now }
+    requires there { IsSome (pair_of tx.old.present.pairs pool.now) }
+    ensures meets { Meets tx.old tx.new result (settled tx.old.present pool.now pair.now out0 out1) }
     ensures kept { OnErr result (tx.new.present ≡ tx.old.present) }
 {
     let b0 = held0(tx.book(), pool);

@@ -1,5 +1,13 @@
-use Rattle.std.proofs.Common.{arith}
+use Rattle.amm_model.proofs.Names.{some_there}
+use Rattle.amm_model.specs.Ledger.{pair_of}
+use Rattle.amm_pair.proofs.Straight.{give_back_is}
 use Rattle.amm_pair.proofs.loans.give_back_at.Goals as goal
 
-pub admits-requires-clause-reserves : goal.admits-requires-clause-reserves
-admits-requires-clause-reserves c = let small = (c.requires.sound.pairs _ _ c.requires.there).small in (omega (arith, small.r0), omega (arith, small.r1))
+pub settle-requires-clause-small : goal.settle-requires-clause-small
+settle-requires-clause-small c = (c.requires.sound.pairs _ _ c.requires.there).small
+
+pub settle-requires-clause-there : goal.settle-requires-clause-there
+settle-requires-clause-there c = some_there (pair_of c.args.tx.now.present.pairs c.args.pool.now) _ c.requires.there
+
+pub returns-clause-meets : goal.returns-clause-meets
+returns-clause-meets c = rw (give_back_is c.args.tx.now.present c.args.pool.now c.args.out0 c.args.out1 c.args.pair.now c.requires.there) c.settle.ensures.meets

@@ -1,0 +1,170 @@
+-- A loan and a swap as the code takes them are the loan and the swap.
+use Rattle.std.proofs.Common.{◌≡◌, ℕ, nat_le, nat_lt, nat_eq, ◌==◌, ◌&&◌, ◌||◌, not, Bool, true, false, cond, List, [], ◌∷◌, Option, Some, None, IsSome, Result, Ok, Err, refl, sym, ap, ◌∙◌}
+use Rattle.std.specs.Prelude.{if◌then◌else◌}
+use Rattle.std.specs.Cmp.Lexicographic.{pointwise}
+use Rattle.amm_names.specs.declared.holder.Holder.{Holder}
+use Rattle.amm_names.specs.declared.holder.Holder.TheVariants as holders
+use Rattle.amm_names.specs.declared.holder.Asset.{Asset}
+use Rattle.amm_names.specs.Order.{same_holder}
+use Rattle.amm_model.specs.declared.pair.PairRecord.{PairRecord}
+use Rattle.amm_model.specs.declared.pair.SwapReceipt.{SwapReceipt}
+use Rattle.amm_model.specs.declared.fault.Refusal.{Refusal}
+use Rattle.amm_model.specs.declared.fault.Refusal.TheVariants as code
+use Rattle.amm_model.specs.Outcome.{◌>>=◌, refuse_if}
+use Rattle.amm_model.specs.Ledger.{Ledger, Made, Outcome, Pairs, balance, done, moved, pair_of, set_pair, with_pair, transfer}
+use Rattle.amm_model.specs.Pools.{asset0, asset1, held0, held1, reserve_limit}
+use Rattle.amm_model.specs.Operations.{free_pair, renewed, updated_to, locked, unlocked, is_token_of, lend, came_in, keeps_product, give_back, swap}
+use Rattle.amm_model.proofs.Guards.{given, not_refused, same_answer}
+use Rattle.amm_model.proofs.Names.{some_there, pair_of-set_here}
+use Rattle.amm_model.proofs.Transfers.{transfer_sent}
+use Rattle.amm_pair.specs.Straight.{both_sent, lendable, lend_from, lend_straight, settled, swap_straight}
+use Rattle.amm_pair.proofs.Operations.{free_found}
+
+-- a transfer is the same whatever the pairs are
+transfer_beside : (l : Ledger) (ps : Pairs) (a : Asset) (f t : Holder) (n : ℕ) → transfer (record l { pairs = ps }) a f t n ≡ (transfer l a f t n >>= λ m. done (record m.ledger { pairs = ps }))
+unfolding transfer
+transfer_beside l ps a f t n = by (nat_lt (balance l a f) n) (same_holder f t)
+  where
+    by : (b c : Bool) → ◌≡◌ {A = Outcome (Unit {0})} (if b then Err code.Funds else (if c then done (record l { pairs = ps }) else done (record (moved l a f t n) { pairs = ps })))
+        ((if b then Err code.Funds else (if c then done l else done (moved l a f t n))) >>= λ m. done (record m.ledger { pairs = ps }))
+    by true c = refl
+    by false true = refl
+    by false false = refl
+
+-- the last record that is written stays
+set_twice : (pairs : Pairs) (pool : List ℕ) (x y : PairRecord) → set_pair (set_pair pairs pool x) pool y ≡ set_pair pairs pool y
+set_twice [] pool x y = refl
+set_twice (e ∷ pairs) pool x y =
+    elim (pointwise nat_eq pool e.0) as (λ b. pointwise nat_eq pool e.0 ≡ b → set_pair (cond b ((e.0, x) ∷ pairs) (e ∷ set_pair pairs pool x)) pool y ≡ cond b ((e.0, y) ∷ pairs) (e ∷ set_pair pairs pool y)) [
+      | true ↦ λ p. rw p refl
+      | false ↦ λ p. rw p (ap (λ (rest : Pairs). e ∷ rest) (set_twice pairs pool x y))
+    ] refl
+
+-- tests that refuse the same, and ends that are the same
+ends_same : (t1 t2 u0 u1 : Bool) (m n : PairRecord) (f g : PairRecord → Outcome SwapReceipt) → f m ≡ g n
+    → (refuse_if t1 code.InsufficientInputAmount >>= λ _. (refuse_if t2 code.K >>= λ _. ((if u0 then Err code.Overflow else (if u1 then Err code.Overflow else Ok m)) >>= f)))
+    ≡ (refuse_if t1 code.InsufficientInputAmount >>= λ _. (refuse_if t2 code.K >>= λ _. ((if u0 then Err code.Overflow else (if u1 then Err code.Overflow else Ok n)) >>= g)))
+ends_same true t2 u0 u1 m n f g same = refl
+ends_same false true u0 u1 m n f g same = refl
+ends_same false false true u1 m n f g same = refl
+ends_same false false false true m n f g same = refl
+ends_same false false false false m n f g same = same
+
+-- tests before a call, and the call behind them
+tests_apart : (t1 t2 t3 : Bool) (raw : Outcome PairRecord) (next : PairRecord → Outcome PairRecord) (pair : PairRecord) → raw ≡ next pair
+    → (refuse_if t1 code.InsufficientOutputAmount >>= λ _. (refuse_if t2 code.InsufficientLiquidity >>= λ _. (refuse_if t3 code.InvalidTo >>= λ _. raw)))
+    ≡ ((refuse_if t1 code.InsufficientOutputAmount >>= λ _. (refuse_if t2 code.InsufficientLiquidity >>= λ _. (refuse_if t3 code.InvalidTo >>= λ _. Ok pair))) >>= next)
+tests_apart true t2 t3 raw next pair same = refl
+tests_apart false true t3 raw next pair same = refl
+tests_apart false false true raw next pair same = refl
+tests_apart false false false raw next pair same = same
+
+-- one call after another
+bind_apart : {A B C : Type 0} (r : Result A Refusal) (f : A → Result B Refusal) (g : B → Result C Refusal) → ((r >>= f) >>= g) ≡ (r >>= λ x. f x >>= g)
+bind_apart (Ok x) f g = refl
+bind_apart (Err why) f g = refl
+
+kept_past : (test : Bool) (why : Refusal) (next : Unit {0} → Result PairRecord Refusal) (made : PairRecord) → (refuse_if test why >>= next) ≡ Ok made → next tt ≡ Ok made
+kept_past test why next made is = (not_refused test why next made is).1
+
+found_first : (first : Result PairRecord Refusal) (next : PairRecord → Result PairRecord Refusal) (made : PairRecord) → (first >>= next) ≡ Ok made → (was : PairRecord) × (first ≡ Ok was) × (next was ≡ Ok made)
+found_first (Ok x) next made is = (x, refl, is)
+found_first (Err why) next made is = cc
+
+-- the return of a loan, where the record is known
+pub give_back_is : (ledger : Ledger) (pool : List ℕ) (out0 out1 : ℕ) (pair : PairRecord) → pair_of ledger.pairs pool ≡ Some pair → give_back ledger pool out0 out1 ≡ settled ledger pool pair out0 out1
+unfolding give_back settled
+give_back_is ledger pool out0 out1 pair there = rw there refl
+
+-- the outcome of a loan from this pair
+abbrev lent : PairRecord → Ledger → Outcome PairRecord
+lent pair ledger = Ok (record { ledger = ledger; answer = locked pair })
+
+module _ (ledger : Ledger) (pool : List ℕ) (out0 out1 : ℕ) (to : Holder) where
+  -- the pairs while the pool lends
+  abbrev during : PairRecord → Pairs
+  during pair = set_pair ledger.pairs pool (locked pair)
+
+  -- the return of what was lent under the lock
+  return_settled : (pair : PairRecord) → pair_of ledger.pairs pool ≡ Some pair → (sent : Ledger) → sent.pairs ≡ ledger.pairs
+      → give_back (record sent { pairs = set_pair ledger.pairs pool (locked pair) }) pool out0 out1 ≡ settled sent pool pair out0 out1
+  unfolding give_back settled updated_to
+  return_settled pair there sent still =
+      let paid : SwapReceipt = came_in sent pool pair out0 out1 in
+      let now : PairRecord = unlocked (renewed pair sent.time (held0 sent pool) (held1 sent pool)) in
+      give_back_is (record sent { pairs = during pair }) pool out0 out1 (locked pair) (pair_of-set_here ledger.pairs pool (locked pair) (some_there (pair_of ledger.pairs pool) pair there))
+      ∙ (ends_same (paid.in0 == 0 && paid.in1 == 0) (not (keeps_product sent pool pair paid)) (nat_lt reserve_limit (held0 sent pool)) (nat_lt reserve_limit (held1 sent pool))
+      (renewed (locked pair) sent.time (held0 sent pool) (held1 sent pool)) (renewed pair sent.time (held0 sent pool) (held1 sent pool))
+      (λ new. Ok (record { ledger = record sent { pairs = set_pair (set_pair ledger.pairs pool (locked pair)) pool (unlocked new) }; answer = paid }))
+      (λ new. Ok (record { ledger = with_pair sent pool (unlocked new); answer = paid }))
+      (ap (λ (ps : Pairs). Ok (record { ledger = record sent { pairs = ps }; answer = paid })) (set_twice ledger.pairs pool (locked pair) now ∙ ap (λ (ps : Pairs). set_pair ps pool now) (sym still))))
+
+  -- both outputs are sent the same whatever the pairs are
+  both_beside : (l : Ledger) (ps : Pairs) → both_sent (record l { pairs = ps }) pool out0 out1 to ≡ (both_sent l pool out0 out1 to >>= λ m. done (record m.ledger { pairs = ps }))
+  unfolding both_sent
+  both_beside l ps = rw (transfer_beside l ps (asset0 pool) (holders.Pool pool) to out0) (by (transfer l (asset0 pool) (holders.Pool pool) to out0))
+    where
+      by : (r : Outcome (Unit {0})) → ((r >>= λ m. done (record m.ledger { pairs = ps })) >>= λ first. transfer first.ledger (asset1 pool) (holders.Pool pool) to out1)
+          ≡ ((r >>= λ first. transfer first.ledger (asset1 pool) (holders.Pool pool) to out1) >>= λ m. done (record m.ledger { pairs = ps }))
+      by (Err why) = refl
+      by (Ok first) = transfer_beside first.ledger ps (asset1 pool) (holders.Pool pool) to out1
+
+  -- and leave the pairs as they are
+  pub both_still : (l : Ledger) (sent : Made (Unit {0})) → both_sent l pool out0 out1 to ≡ Ok sent → sent.ledger.pairs ≡ l.pairs
+  unfolding both_sent
+  both_still l sent is =
+      let first = given (transfer l (asset0 pool) (holders.Pool pool) to out0) _ sent is in
+      (transfer_sent first.value.ledger (asset1 pool) (holders.Pool pool) to out1 sent first.after).rest.pairs ∙ (transfer_sent l (asset0 pool) (holders.Pool pool) to out0 first.value first.was).rest.pairs
+
+  -- what follows the tests of a swap
+  abbrev straight_by : PairRecord → Outcome SwapReceipt
+  straight_by pair = both_sent ledger pool out0 out1 to >>= λ sent. settled sent.ledger pool pair out0 out1
+
+  paid_same : (pair : PairRecord) → pair_of ledger.pairs pool ≡ Some pair → (r : Outcome (Unit {0})) → both_sent ledger pool out0 out1 to ≡ r
+      → (lend_from ledger pool pair out0 out1 to >>= λ lent. give_back lent.ledger pool out0 out1) ≡ (r >>= λ sent. settled sent.ledger pool pair out0 out1)
+  unfolding lend_from
+  paid_same pair there (Err why) is = rw (both_beside ledger (during pair), is) refl
+  paid_same pair there (Ok sent) is = rw (both_beside ledger (during pair), is) (return_settled pair there sent.ledger (both_still ledger sent is))
+
+  abbrev raw : PairRecord → Outcome PairRecord
+  raw pair = transfer (with_pair ledger pool (locked pair)) (asset0 pool) (holders.Pool pool) to out0 >>= λ first. (transfer first.ledger (asset1 pool) (holders.Pool pool) to out1 >>= λ second. lent pair second.ledger)
+
+  abbrev next : PairRecord → Outcome PairRecord
+  next pair = (transfer (with_pair ledger pool (locked pair)) (asset0 pool) (holders.Pool pool) to out0 >>= λ first. transfer first.ledger (asset1 pool) (holders.Pool pool) to out1) >>= λ sent. lent pair sent.ledger
+
+  pub lend_is_straight : lend ledger pool out0 out1 to ≡ lend_straight ledger pool out0 out1 to
+  unfolding lend lend_straight lendable lend_from both_sent
+  lend_is_straight = by (free_pair ledger pool)
+    where
+      by : (r : Result PairRecord Refusal)
+          → (r >>= λ pair. (refuse_if (out0 == 0 && out1 == 0) code.InsufficientOutputAmount >>= λ _. (refuse_if (nat_le pair.r0 out0 || nat_le pair.r1 out1) code.InsufficientLiquidity
+          >>= λ _. (refuse_if (is_token_of pool to) code.InvalidTo >>= λ _. raw pair))))
+          ≡ ((r >>= λ pair. (refuse_if (out0 == 0 && out1 == 0) code.InsufficientOutputAmount >>= λ _. (refuse_if (nat_le pair.r0 out0 || nat_le pair.r1 out1) code.InsufficientLiquidity
+          >>= λ _. (refuse_if (is_token_of pool to) code.InvalidTo >>= λ _. Ok pair)))) >>= next)
+      by (Err why) = refl
+      by (Ok pair) = tests_apart (out0 == 0 && out1 == 0) (nat_le pair.r0 out0 || nat_le pair.r1 out1) (is_token_of pool to) (raw pair) next pair
+          (sym (bind_apart (transfer (with_pair ledger pool (locked pair)) (asset0 pool) (holders.Pool pool) to out0) (λ first. transfer first.ledger (asset1 pool) (holders.Pool pool) to out1) (λ sent. lent pair sent.ledger)))
+
+  straight_unfolds : lend_straight ledger pool out0 out1 to ≡ (lendable ledger pool out0 out1 to >>= λ pair. lend_from ledger pool pair out0 out1 to)
+  unfolding lend_straight
+  straight_unfolds = refl
+
+  -- the pair that may lend is there
+  lendable_there : (pair : PairRecord) → lendable ledger pool out0 out1 to ≡ Ok pair → pair_of ledger.pairs pool ≡ Some pair
+  unfolding lendable
+  lendable_there pair is =
+      let first = found_first (free_pair ledger pool) _ pair is in
+      let was : PairRecord = first.0 in
+      let asked = kept_past (out0 == 0 && out1 == 0) code.InsufficientOutputAmount _ pair first.2 in
+      let enough = kept_past (nat_le was.r0 out0 || nat_le was.r1 out1) code.InsufficientLiquidity _ pair asked in
+      let allowed = kept_past (is_token_of pool to) code.InvalidTo _ pair enough in
+      (free_found ledger pool was first.1).there ∙ ap Some (same_answer was pair allowed)
+
+  -- what follows the tests, once the pair was found
+  by_found : (r : Result PairRecord Refusal) → lendable ledger pool out0 out1 to ≡ r → (r >>= λ pair. lend_from ledger pool pair out0 out1 to) >>= (λ lent. give_back lent.ledger pool out0 out1) ≡ (r >>= straight_by)
+  by_found (Err why) is = refl
+  by_found (Ok pair) is = paid_same pair (lendable_there pair is) _ refl
+
+  pub swap_is_straight : swap ledger pool out0 out1 to ≡ swap_straight ledger pool out0 out1 to
+  unfolding swap swap_straight
+  swap_is_straight = ap (λ (lent : Outcome PairRecord). lent >>= λ l. give_back l.ledger pool out0 out1) (lend_is_straight ∙ straight_unfolds) ∙ by_found (lendable ledger pool out0 out1 to) refl
