@@ -64,6 +64,7 @@ impl Journal {
     /// Makes room for n more changes, so that noting them cannot fail once they are made.
     pub fn reserve(&mut self, n: usize) -> Result<(), Memory>
         ensures room { OnOk result (n ≤ self.new.room) }
+        ensures full { OnErr result (self.old.room < n) }
         ensures same { self.new.changes ≡ self.old.changes }
     {
         self.entries.reserve(n)?;
@@ -93,7 +94,8 @@ impl Journal {
 
     /// Forgets all changes, and keeps the room for the next ones.
     pub fn clear(&mut self)
-        ensures { self.new.changes ≡ [] }
+        ensures forgotten { self.new.changes ≡ [] }
+        ensures room { self.old.room ≤ self.new.room }
     {
         self.entries.clear();
     }
