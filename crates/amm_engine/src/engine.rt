@@ -7,6 +7,8 @@ ghost use Rattle.amm_model.specs.declared.line.Line.TheVariants.{Whole};
 ghost use Rattle.amm_model.specs.Ledger.{opening_ledger};
 ghost use Rattle.amm_model.specs.Sound.{IsAtRest};
 ghost use Rattle.amm_model.specs.CommandView.{view_of};
+ghost use Rattle.amm_model.specs.Outcome.{Gives};
+ghost use Rattle.amm_model.specs.Reading.{command_of_line};
 ghost use Rattle.amm_model.specs.Fits.{Fits};
 ghost use Rattle.amm_engine.specs.Commands.{AnswersCommand};
 ghost use Rattle.amm_engine.specs.Service.{AnswersLine, ServesAll, ServesEnded, ServesToLimit, BreaksOff, LacksMemory};
@@ -104,6 +106,14 @@ impl Engine {
         }
     }
 
+    /// The command that the bytes of a line are.
+    fn read(&mut self, alloc: Global, bytes: &[u8]) -> Result<Command, Fault>
+        ensures gives { Gives view_of result (command_of_line bytes.now) }
+        ensures same { self.new ≡ self.old }
+    {
+        self.reader.read(alloc, bytes)
+    }
+
     /// Answers the bytes of a line.
     fn answer_whole(
         &mut self,
@@ -115,7 +125,7 @@ impl Engine {
         ensures ok { OnOk result (AnswersLine self.old number (Whole bytes.now) text.new.items self.new) }
         ensures err { OnErr result (self.new ≡ self.old) }
     {
-        match self.reader.read(alloc, bytes) {
+        match self.read(alloc, bytes) {
             Ok(command) => self.answer_command(alloc, number, &command, text),
             Err(Fault::Refused(why)) => write_reply(text, number, Answer::Refused(why)),
             Err(Fault::Memory) => Err(Memory),

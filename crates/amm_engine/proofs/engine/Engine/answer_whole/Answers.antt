@@ -1,15 +1,18 @@
+use Rattle.std.proofs.Common.{sym}
 use Rattle.amm_model.proofs.Fitting.{reads_fitting}
 use Rattle.amm_engine.proofs.Steps.{AnswersLine-asked, AnswersLine-unread, on_ok_by}
 use Rattle.amm_engine.proofs.engine.Engine.answer_whole.Goals as goal
 
 pub answer_command-requires : goal.answer_command-requires
-answer_command-requires c = record { fits = reads_fitting _ _ c.in-Ok.ensures }
+answer_command-requires c = record { fits = reads_fitting _ _ c.in-Ok.ensures.gives }
 
 pub returns-in-Ok-clause-ok : goal.returns-in-Ok-clause-ok
-returns-in-Ok-clause-ok c = on_ok_by _ c.answer_command.ensures.ok (λ a. AnswersLine-asked _ _ _ _ _ _ c.in-Ok.ensures a)
+returns-in-Ok-clause-ok c =
+    let same = c.read.ensures.same in
+    rw (sym same) (on_ok_by _ c.answer_command.ensures.ok (λ a. AnswersLine-asked _ _ _ _ _ _ c.in-Ok.ensures.gives a))
 
 pub returns-in-Err-Refused-clause-ok : goal.returns-in-Err-Refused-clause-ok
 returns-in-Err-Refused-clause-ok c =
-    let fails = rw c.in-Err-Refused.field-0-is at c.in-Err-Refused.ensures in
+    let fails = rw c.in-Err-Refused.field-0-is at c.in-Err-Refused.ensures.gives in
     let written = rw c.in-Err-Refused.why-is at c.write_reply.ensures in
-    on_ok_by _ written (λ is. AnswersLine-unread _ _ _ _ _ fails is)
+    rw c.read.ensures.same (on_ok_by _ written (λ is. AnswersLine-unread _ _ _ _ _ fails is))
