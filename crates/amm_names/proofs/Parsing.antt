@@ -16,12 +16,12 @@ placed first long at is = by (nat_lt first long) refl is
     by false below is = cc
 
 -- bytes are what stands before the first stop, the stop, and what stands behind it
-pub split_there : (bytes : List ℕ) (stop at : ℕ) → position (λ b. b == stop) bytes ≡ Some at → (take at bytes ≡ before_first (λ b. b == stop) bytes) × (drop (at + 1) bytes ≡ after_first (λ b. b == stop) bytes) × (bytes ≡ take at bytes ++ stop ∷ drop (at + 1) bytes)
+pub split_there : (bytes : List ℕ) (stop at : ℕ) → position (λ b. b == stop) bytes ≡ Some at → bytes ≡ take at bytes ++ stop ∷ drop (at + 1) bytes
 split_there bytes stop at found =
     let is_stop = λ (b : ℕ). b == stop in
     let there = placed (position_or_len is_stop bytes) (length bytes) at found in
     let here : get_or bytes (position_or_len is_stop bytes) 0 ≡ stop = eqb-true _ stop (passes_at_first is_stop bytes 0 there.1) in
-    (ap (λ n. take n bytes) (sym there.0), ap (λ n. drop (n + 1) bytes) (sym there.0), split_at_first is_stop bytes 0 there.1 ∙ ap (λ b. before_first is_stop bytes ++ b ∷ after_first is_stop bytes) here ∙ ap (λ n. take n bytes ++ stop ∷ drop (n + 1) bytes) there.0)
+    split_at_first is_stop bytes 0 there.1 ∙ ap (λ b. before_first is_stop bytes ++ b ∷ after_first is_stop bytes) here ∙ ap (λ n. take n bytes ++ stop ∷ drop (n + 1) bytes) there.0
 
 -- no fee, no name
 pub no_fee : (bytes tail : List ℕ) → tail ≡ after_first (λ b. b == 47) bytes → ((fee : ℕ) → IsTrue (is_fee fee) → tail ≢ before_first (λ b. b == 58) tail ++ fee_spelling fee) → is_pool_name bytes ≡ false

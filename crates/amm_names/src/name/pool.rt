@@ -1,5 +1,5 @@
 //! The name of a pool: its two tokens and its fee.
-ghost use Rattle.std.specs.Prelude.{◌≡◌, ◌≢◌, ℕ, [], ◌∷◌, ◌++◌, IfOk, MatchOption, IsTrue, IsUtf8, Some, None, if◌then◌else◌, ◌==◌};
+ghost use Rattle.std.specs.Prelude.{◌≡◌, ◌≢◌, ◌≤◌, ℕ, [], ◌∷◌, ◌++◌, length, IfNone, IfOk, IfSome, IsTrue, IsUtf8, Some, None, if◌then◌else◌, ◌==◌};
 ghost use Rattle.std.specs.List.{position, before_first, after_first};
 ghost use Rattle.amm_names.specs.Names.{is_token_name};
 ghost use Rattle.amm_names.specs.Pools.{pool_spelling, is_before, is_fee, fee_spelling, pool_between, is_pool_name, pool_token0, pool_token1, pool_fee};
@@ -37,6 +37,7 @@ impl Model for PoolName {
     ghost inverse_ok = { λ name spelled. parts_fit name.token0 name.token1 name.fee name.text spelled.0 spelled.1 (λ token0 token1 fee. record { token0 = token0; token1 = token1; fee = fee; text = name.text }) };
 }
 
+/// Where the first such byte stands.
 fn place(bytes: &[u8], stop: u8) -> Option<usize>
     ensures { result ≡ position (λ b. b == stop) bytes.now }
 {
@@ -45,7 +46,10 @@ fn place(bytes: &[u8], stop: u8) -> Option<usize>
 
 /// What stands before the first such byte and what stands behind it, if there is one.
 fn split_once(bytes: &[u8], stop: u8) -> Option<(&[u8], &[u8])>
-    ensures { MatchOption result (before_first (λ b. b == stop) bytes.now ≡ bytes.now × after_first (λ b. b == stop) bytes.now ≡ []) (λ parts. parts.0.now ≡ before_first (λ b. b == stop) bytes.now × parts.1.now ≡ after_first (λ b. b == stop) bytes.now × bytes.now ≡ parts.0.now ++ stop ∷ parts.1.now) }
+    ensures none { IfNone result (before_first (λ b. b == stop) bytes.now ≡ bytes.now × after_first (λ b. b == stop) bytes.now ≡ []) }
+    ensures before { IfSome result (λ parts. parts.0.now ≡ before_first (λ b. b == stop) bytes.now) }
+    ensures after { IfSome result (λ parts. parts.1.now ≡ after_first (λ b. b == stop) bytes.now) }
+    ensures whole { IfSome result (λ parts. bytes.now ≡ parts.0.now ++ stop ∷ parts.1.now) }
 {
     let at = place(bytes, stop)?;
     Some((&bytes[..at], &bytes[at + 1..]))
@@ -53,7 +57,9 @@ fn split_once(bytes: &[u8], stop: u8) -> Option<(&[u8], &[u8])>
 
 /// The fee that these digits behind a colon spell, if they do.
 fn fee_of_digits(digits: &[u8]) -> Option<u8>
-    ensures { MatchOption result ((fee : ℕ) → IsTrue (is_fee fee) → 58 ∷ digits.now ≢ fee_spelling fee) (λ fee. IsTrue (is_fee fee) × (58 ∷ digits.now ≡ fee_spelling fee)) }
+    ensures none { IfNone result ((fee : ℕ) → IsTrue (is_fee fee) → 58 ∷ digits.now ≢ fee_spelling fee) }
+    ensures fee { IfSome result (λ fee. IsTrue (is_fee fee)) }
+    ensures spelled { IfSome result (λ fee. 58 ∷ digits.now ≡ fee_spelling fee) }
 {
     match digits {
         b"1" => Some(1),
@@ -64,7 +70,10 @@ fn fee_of_digits(digits: &[u8]) -> Option<u8>
 
 /// The second token's bytes and the fee, if what stands behind those bytes spells one.
 fn split_fee(tail: &[u8]) -> Option<(&[u8], u8)>
-    ensures { let second = before_first (λ b. b == 58) tail.now in MatchOption result ((fee : ℕ) → IsTrue (is_fee fee) → tail.now ≢ second ++ fee_spelling fee) (λ parts. parts.0.now ≡ second × IsTrue (is_fee parts.1) × tail.now ≡ second ++ fee_spelling parts.1) }
+    ensures none { IfNone result ((fee : ℕ) → IsTrue (is_fee fee) → tail.now ≢ before_first (λ b. b == 58) tail.now ++ fee_spelling fee) }
+    ensures second { IfSome result (λ parts. parts.0.now ≡ before_first (λ b. b == 58) tail.now) }
+    ensures fee { IfSome result (λ parts. IsTrue (is_fee parts.1)) }
+    ensures spelled { IfSome result (λ parts. tail.now ≡ parts.0.now ++ fee_spelling parts.1) }
 {
     match split_once(tail, b':') {
         Some((second, digits)) => Some((second, fee_of_digits(digits)?)),
@@ -72,14 +81,16 @@ fn split_fee(tail: &[u8]) -> Option<(&[u8], u8)>
     }
 }
 
-fn fee_text(fee: u8) -> &'static [u8]
-    requires { IsTrue (is_fee fee) }
-    ensures { result.now ≡ fee_spelling fee }
+/// A text of two tokens, and the fee behind it.
+fn with_fee(tokens: Text<28>, fee: u8) -> Text<28>
+    requires fee { IsTrue (is_fee fee) }
+    requires room { length tokens ≤ 25 }
+    ensures { result ≡ tokens ++ fee_spelling fee }
 {
     match fee {
-        1 => b":1",
-        10 => b":10",
-        _ => b"",
+        1 => tokens.with(b":1"),
+        10 => tokens.with(b":10"),
+        _ => tokens,
     }
 }
 
@@ -89,14 +100,15 @@ fn spell(token0: TokenName, token1: TokenName, fee: u8) -> PoolName
     requires fee { IsTrue (is_fee fee) }
     ensures { result ≡ pool_spelling token0 token1 fee }
 {
+    let tokens = Text::empty()
+        .joined(token0.text)
+        .with(b"/")
+        .joined(token1.text);
     PoolName {
         token0,
         token1,
         fee,
-        text: Text::new(token0.as_bytes())
-            .with(b"/")
-            .with(token1.as_bytes())
-            .with(fee_text(fee)),
+        text: with_fee(tokens, fee),
     }
 }
 
@@ -113,12 +125,7 @@ impl PoolName {
         if token0 >= token1 {
             return None;
         }
-        Some(PoolName {
-            token0,
-            token1,
-            fee,
-            text: Text::new(bytes),
-        })
+        Some(spell(token0, token1, fee))
     }
 
     /// Reads a name, if the bytes spell one.

@@ -1,5 +1,5 @@
 //! Bytes of a name, kept in place, compared and hashed as a list.
-ghost use Rattle.std.specs.Prelude.{◌≡◌, ◌<◌, ◌≤◌, ◌+◌, ◌++◌, length};
+ghost use Rattle.std.specs.Prelude.{◌≡◌, ◌<◌, ◌≤◌, ◌+◌, [], ◌++◌, length};
 ghost use borrow.Rule.Slice.PartMut.{put_mid};
 
 use std::cmp::Ordering;
@@ -37,17 +37,22 @@ fn write_at(field: &mut [u8], start: usize, bytes: &[u8])
 }
 
 impl<const N: usize> Text<N> {
+    pub fn empty() -> Text<N>
+        ensures { result ≡ [] }
+    {
+        Text {
+            bytes: [0; N],
+            len: 0,
+        }
+    }
+
     /// Keeps these bytes.
     pub fn new(bytes: &[u8]) -> Text<N>
         requires room { length bytes.now ≤ N }
         requires small { N < 256 }
         ensures { result ≡ bytes.now }
     {
-        let empty = Text {
-            bytes: [0; N],
-            len: 0,
-        };
-        empty.with(bytes)
+        Text::empty().with(bytes)
     }
 
     /// These bytes, and more behind them.
@@ -62,6 +67,21 @@ impl<const N: usize> Text<N> {
         Text {
             bytes,
             len: (start + more.len()) as u8,
+        }
+    }
+
+    /// These bytes, and those of a text behind them: its whole field is copied, and the zeros fall on zeros.
+    pub fn joined<const M: usize>(self, more: Text<M>) -> Text<N>
+        requires room { length self + M ≤ N }
+        requires small { N < 256 }
+        ensures { result ≡ self.entry ++ more.entry }
+    {
+        let start = self.len as usize;
+        let mut bytes = self.bytes;
+        write_at(&mut bytes, start, &more.bytes);
+        Text {
+            bytes,
+            len: self.len + more.len,
         }
     }
 
