@@ -11,10 +11,6 @@ use Rattle.amm_model.specs.Later.{Later}
 use Rattle.amm_state.specs.declared.mark.Mark.{Mark}
 use Rattle.amm_state.specs.declared.mark.Mark.TheVariants as mark
 
--- what a borrower does: from the ledger that it is given to the one that it leaves, with the end of its call
-abbrev pub Deed : Type 1
-Deed = Ledger → Ledger → Mark → Type 0
-
 -- the ledger with the lending pair's record set back to that of the loan
 abbrev pub before_return : Ledger → Terms → Ledger
 before_return ledger loan = with_pair ledger loan.pool loan.pair
