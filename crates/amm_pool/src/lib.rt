@@ -146,7 +146,8 @@ fn elapsed(now: u64, last: u32) -> u32
 fn grown(acc: u128, units: u64, per: u64, elapsed: u32) -> u128
     ensures { result ≡ grown_of acc units per elapsed }
 {
-    if units == 0 || per == 0 {
+    // Within one second no price is worked out.
+    if elapsed == 0 || units == 0 || per == 0 {
         return acc;
     }
     let price = units as u128 * 0x1_0000_0000_0000 / per as u128;
