@@ -101,7 +101,7 @@ impl Engine {
                 text.clear();
                 Ok(())
             }
-            Line::Long => write_reply(text, number, Answer::Refused(Refusal::LongLine)),
+            Line::Long => write_reply(text, number, &Answer::Refused(Refusal::LongLine)),
             Line::Whole(bytes) => self.answer_whole(alloc, number, bytes.as_slice(), text),
         }
     }
@@ -127,7 +127,7 @@ impl Engine {
     {
         match self.read(alloc, bytes) {
             Ok(command) => self.answer_command(alloc, number, &command, text),
-            Err(Fault::Refused(why)) => write_reply(text, number, Answer::Refused(why)),
+            Err(Fault::Refused(why)) => write_reply(text, number, &Answer::Refused(why)),
             Err(Fault::Memory) => Err(Memory),
         }
     }
