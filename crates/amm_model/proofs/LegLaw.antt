@@ -1,5 +1,5 @@
 -- A leg-by-leg route is, leg for trade, a route that delivers the same.
-use Rattle.std.proofs.Common.{◌≡◌, ◌≢◌, ℕ, ◌+◌, ◌-◌, ◌*◌, ◌<◌, ◌≤◌, Bool, true, false, cond, nat_eq, List, [], ◌∷◌, length, map, arith, zero, suc, subst, ap, sym, refl, get_or, ◌∙◌, ◌^◌}
+use Rattle.std.proofs.Common.{◌≡◌, ◌≢◌, ℕ, ◌+◌, ◌-◌, ◌*◌, ◌<◌, ◌≤◌, Bool, true, false, cond, nat_eq, List, [], ◌∷◌, length, map, arith, suc, subst, sym, refl, get_or, ◌∙◌, ◌^◌}
 use Rattle.std.specs.Prelude.{AllPairs, All, Contains, sum_by}
 use Rattle.std.proofs.Math.ListN.{replicate, length-map, length-replicate}
 use Rattle.std.proofs.lemmas.List.{get_or-map, get_or-replicate}
@@ -9,7 +9,8 @@ use Rattle.std.proofs.lemmas.Bool.{eqb-true}
 use Rattle.std.proofs.lemmas.Map.Views.{Contains-from_any}
 use Rattle.std.proofs.lemmas.Map.Steps.{length-le_from_distinct_below}
 use Rattle.std.proofs.lemmas.List.Folds.{sum_by-replicate}
-use Rattle.amm_model.proofs.Sums.{once_places, sum_by-le_each, sum_of_places-le}
+use Rattle.std.proofs.lemmas.List.Kept.{AllPairs-cons}
+use Rattle.amm_model.proofs.Sums.{at-same, at-other, once_places, sum_by-le_each, sum_of_places-le}
 use Rattle.std.specs.List.{AllByRecursion}
 use Rattle.std.specs.Str.{bytes_eq}
 use Rattle.std.proofs.lemmas.Slice.Eq.{bytes_eq-Decides}
@@ -114,19 +115,13 @@ apart_from_used pools used held (leg ∷ legs) k below legal = (
   apart_from_used pools (leg.pool ∷ used) (after_leg pools held leg) legs (suc k) (omega arith) legal.1,
 )
 
-pairs_cons : {X : Type 0} (R : X → X → Type 0) (x : X) (xs : List X) → AllByRecursion (R x) xs → AllPairs R xs → AllPairs R (x ∷ xs)
-pairs_cons R x xs first rest zero zero d ij below = absurd (omega arith)
-pairs_cons R x xs first rest zero (suc j) d ij below = All-from_recursion (R x) xs first j d (omega arith)
-pairs_cons R x xs first rest (suc i) zero d ij below = absurd (omega arith)
-pairs_cons R x xs first rest (suc i) (suc j) d ij below = rest i j d (omega arith) (omega arith)
-
 legs_apart : (pools : List ProblemPool) (used : List ℕ) (held : Holdings) (legs : List Leg) → AreLegs pools used held legs →
     AllPairs (λ (a b : Trade). a.place ≢ b.place) (map trade_of legs)
 legs_apart pools used held [] legal = λ i j d ij below. absurd (omega arith)
 legs_apart pools used held (leg ∷ legs) legal =
-    pairs_cons (λ (a b : Trade). a.place ≢ b.place) (trade_of leg) (map trade_of legs)
-    (subst (λ (n : ℕ). AllByRecursion (λ (t : Trade). n ≢ t.place) (map trade_of legs)) (sym (place_of_trade leg))
-    (apart_from_used pools (leg.pool ∷ used) (after_leg pools held leg) legs 0 (omega arith) legal.1))
+    AllPairs-cons (λ (a b : Trade). a.place ≢ b.place) (trade_of leg) (map trade_of legs)
+    (All-from_recursion (λ (t : Trade). (trade_of leg).place ≢ t.place) (map trade_of legs) (subst (λ (n : ℕ). AllByRecursion (λ (t : Trade). n ≢ t.place) (map trade_of legs)) (sym (place_of_trade leg))
+    (apart_from_used pools (leg.pool ∷ used) (after_leg pools held leg) legs 0 (omega arith) legal.1)))
     (legs_apart pools (leg.pool ∷ used) (after_leg pools held leg) legs legal.1)
 
 -- so there are no more legs than pools
@@ -156,14 +151,10 @@ legs_few problem used held legs sound legal =
     differ a b apart = grind (arith, nat_tests)
 
 start_is : (problem : ProblemView) → starting_with problem problem.s ≡ problem.d
-start_is problem = ap (λ (b : Bool). cond b problem.d 0) ((bytes_eq-Decides problem.s problem.s).1 refl)
+start_is problem = at-same bytes_eq bytes_eq-Decides problem.s problem.d
 
 start_of_other : (problem : ProblemView) (y : Name) → y ≢ problem.s → starting_with problem y ≡ 0
-start_of_other problem y apart = pick (bytes_eq y problem.s) (bytes_eq-Decides y problem.s).0
-  where
-    pick : (b : Bool) → (b ≡ true → y ≡ problem.s) → cond b problem.d 0 ≡ 0
-    pick true says = absurd (apart (says refl))
-    pick false says = refl
+start_of_other problem y apart = at-other bytes_eq bytes_eq-Decides problem.s problem.d y apart
 
 -- a leg-by-leg route is a route, leg for trade
 pub legs_are_route : (problem : ProblemView) (legs : List Leg) → IsProblem problem → AreLegs problem.pools [] (starting_with problem) legs → IsRoute problem (map trade_of legs)
