@@ -11,14 +11,14 @@ use Rattle.amm_names.specs.Pools.{pool_token0, pool_token1}
 use Rattle.amm_model.specs.Ledger.{Ledger, Made, Pairs, transfer, retire, pair_of, with_pair}
 use Rattle.amm_model.specs.Pools.{asset0, asset1, held0, held1, supply}
 use Rattle.amm_model.specs.Operations.{free_pair, updated, renewed, is_nobody, fee_due, with_fee, after_fee, with_product, own_shares, parts_of, pay_out, burn, PerShareKept}
-use Rattle.amm_model.specs.Sound.{IsAtRest, IsCovered, IsSoundPair, IsSound}
+use Rattle.amm_model.specs.Sound.{IsCovered, IsSoundPair, IsSound}
 use Rattle.amm_pool.proofs.Products.{burned_product}
 use Rattle.amm_model.proofs.Guards.{given, not_refused, same_answer}
 use Rattle.amm_model.proofs.Names.{some_there, one_value, pair_of-set_here}
 use Rattle.amm_model.proofs.Balances.{Taken}
 use Rattle.amm_model.proofs.Transfers.{Sent, transfer_sent, retire_taken}
 use Rattle.amm_model.proofs.Soundness.{OnlyAt, only_at_then, with_pair_only, sent_only, taken_only, share_not_token, tokens_apart}
-use Rattle.amm_model.proofs.Keeping.{Keeps, keeps_at, SameSettings, only_same_settings, rest_kept}
+use Rattle.amm_model.proofs.Keeping.{Keeps, keeps_at, SameSettings, only_same_settings}
 use Rattle.amm_pair.proofs.Operations.{Found, free_found, Renewed, updated_renewed, settled_sound, IsKept}
 use Rattle.amm_pair.proofs.Minting.{covered_scaled, square_small}
 use Rattle.amm_pair.proofs.Shares.{Grown, fee_grown, grown_only, Closed, closed, same_lock, fee_due_within, no_fee_due, not_zero}
@@ -216,6 +216,3 @@ module _ (l : Ledger) (pool : List ℕ) (to : Holder) (made : Made BurnReceipt) 
         (subst (λ (k : ℕ). (m.was.r0 * m.was.r1) * (k * k) ≤ (final.r0 * final.r1) * (s * s)) (sym t)
         (subst (λ (k : ℕ). (m.was.r0 * m.was.r1) * (supply m.mid pool * supply m.mid pool) ≤ (k * final.r1) * (s * s)) (sym final_closed.r0)
         (subst (λ (k : ℕ). (m.was.r0 * m.was.r1) * (supply m.mid pool * supply m.mid pool) ≤ (held0 m.mid pool * k) * (s * s)) (sym final_closed.r1) product)))))
-
-  pub burn_rest : pool_token0 pool ≢ pool_token1 pool → IsAtRest l → IsAtRest made.ledger
-  burn_rest apart rest = rest_kept l made.ledger rest burn_keeps (burn_sound apart rest.sound)

@@ -12,13 +12,13 @@ use Rattle.amm_model.specs.Swap.{admits}
 use Rattle.amm_model.specs.Ledger.{Ledger, Made, Pairs, pair_of, set_pair, with_pair, transfer}
 use Rattle.amm_model.specs.Pools.{asset0, asset1, held0, held1, supply, Terms}
 use Rattle.amm_model.specs.Operations.{if_there, free_pair, renewed, updated, locked, unlocked, is_token_of, lend, open_loan, came_in, keeps_product, give_back, swap}
-use Rattle.amm_model.specs.Sound.{IsSoundPair, IsSound, IsOpen, IsAtRest, ProductKept}
+use Rattle.amm_model.specs.Sound.{IsSoundPair, IsSound, IsOpen, ProductKept}
 use Rattle.amm_pool.proofs.Products.{product_kept}
 use Rattle.amm_model.proofs.Guards.{Given, given, not_refused, same_answer}
 use Rattle.amm_model.proofs.Names.{name_cases, some_there, one_value, pair_of-set_here}
 use Rattle.amm_model.proofs.Transfers.{transfer_sent}
 use Rattle.amm_model.proofs.Soundness.{OnlyAt, only_at_then, same_only, with_pair_only, sound_but_at, share_not_token}
-use Rattle.amm_model.proofs.Keeping.{Keeps, keeps_same, SameSettings, same_settings, same_settings_then, only_same_settings, rest_kept}
+use Rattle.amm_model.proofs.Keeping.{Keeps, keeps_same, SameSettings, same_settings, same_settings_then, only_same_settings}
 use Rattle.amm_pair.proofs.Operations.{Found, free_found, Renewed, updated_renewed, renewed_small, backed_grown, settled_sound, BothSent, both_only, both_pairs, sent_sound}
 
 -- what a loan leaves: the pair was free, its record is locked, and the outputs are gone
@@ -236,6 +236,3 @@ module _ (ledger : Ledger) (pool : List ℕ) (out0 out1 : ℕ) (to : Holder) (ma
 
   pub swap_same_settings : SameSettings ledger made.ledger
   swap_same_settings = loan_same_settings ledger pool out0 out1 to both.value both.was both.value.ledger made both.after (same_settings both.value.ledger)
-
-  pub swap_rest : IsAtRest ledger → IsAtRest made.ledger
-  swap_rest rest = rest_kept ledger made.ledger rest swap_keeps (swap_sound ledger pool out0 out1 to made rest.sound is)

@@ -15,11 +15,11 @@ use Rattle.amm_model.specs.Formulas.{IsBacked, grown}
 use Rattle.amm_model.specs.Ledger.{Ledger, Made, Pairs, balance, total, total_limit, pair_of, set_pair, with_pair, transfer, is_listed}
 use Rattle.amm_model.specs.Pools.{asset0, asset1, held0, held1, supply, first_locked, reserve_limit}
 use Rattle.amm_model.specs.Operations.{if_free, free_pair, renewed, updated_to, updated, sync, skim, excess}
-use Rattle.amm_model.specs.Sound.{IsSmall, IsCovered, IsSoundPair, IsSound, IsAtRest}
+use Rattle.amm_model.specs.Sound.{IsSmall, IsCovered, IsSoundPair, IsSound}
 use Rattle.amm_model.proofs.Guards.{given, past_refusal, same_answer}
 use Rattle.amm_model.proofs.Names.{some_there, one_value, pair_of-set_here}
 use Rattle.amm_model.proofs.Transfers.{Sent, transfer_sent}
-use Rattle.amm_model.proofs.Keeping.{Keeps, keeps_at, SameSettings, only_same_settings, rest_kept}
+use Rattle.amm_model.proofs.Keeping.{Keeps, keeps_at, SameSettings, only_same_settings}
 use Rattle.amm_model.proofs.Soundness.{OnlyAt, only_at_then, same_only, with_pair_only, sent_only, sound_but_at, tokens_apart}
 
 -- a pair that was there and free
@@ -168,9 +168,6 @@ module _ (pool : List ℕ) (n0 n1 : ℕ) (old new : Ledger) (sent : BothSent poo
     pub least1 : held1 old pool ≤ held1 new pool + n1
     least1 = omega (arith, sent.second.least, same1)
 
-    pub funds1 : n1 ≤ held1 old pool
-    funds1 = omega (arith, sent.second.funds, same1)
-
 -- what a skim leaves
 pub record Skimmed (old : Ledger) (pool : List ℕ) (made : Ledger) : Type 0 where
   pub was : PairRecord
@@ -244,9 +241,6 @@ module _ (ledger : Ledger) (pool : List ℕ) (made : Made (Unit {0})) (is : sync
   pub sync_same_settings : SameSettings ledger made.ledger
   sync_same_settings = only_same_settings pool ledger made.ledger sync_only
 
-  pub sync_rest : IsAtRest ledger → IsAtRest made.ledger
-  sync_rest rest = rest_kept ledger made.ledger rest sync_keeps (sync_sound ledger pool made rest.sound is)
-
 module _ (ledger : Ledger) (pool : List ℕ) (to : Holder) (made : Made SkimReceipt) (is : skim ledger pool to ≡ Ok made) where
   skimmed : Skimmed ledger pool made.ledger
   skimmed = skim_skimmed ledger pool to made is
@@ -259,6 +253,3 @@ module _ (ledger : Ledger) (pool : List ℕ) (to : Holder) (made : Made SkimRece
 
   pub skim_same_settings : SameSettings ledger made.ledger
   skim_same_settings = only_same_settings pool ledger made.ledger skim_only
-
-  pub skim_rest : pool_token0 pool ≢ pool_token1 pool → IsAtRest ledger → IsAtRest made.ledger
-  skim_rest apart rest = rest_kept ledger made.ledger rest skim_keeps (skim_sound ledger pool to made apart rest.sound is)
