@@ -166,9 +166,6 @@ module _ (pool : List ℕ) (n0 n1 : ℕ) (old new : Ledger) (sent : BothSent poo
     pub least1 : held1 old pool ≤ held1 new pool + n1
     least1 = omega (arith, sent.second.least, same1)
 
-    pub funds1 : n1 ≤ held1 old pool
-    funds1 = omega (arith, sent.second.funds, same1)
-
 -- what a skim leaves
 pub record Skimmed (old : Ledger) (pool : List ℕ) (made : Ledger) : Type 0 where
   pub was : PairRecord
