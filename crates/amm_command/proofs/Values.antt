@@ -143,7 +143,7 @@ without_data : {A : Type 0} (o : Option A) → is_some o ≡ false → o ≡ Non
 without_data None e = refl
 without_data (Some x) e = absurd cc
 
-was_some : {A : Type 0} (o : Option A) (x : A) → ok_or o BadJson ≡ Ok x → o ≡ Some x
+pub was_some : {A : Type 0} (o : Option A) (x : A) → ok_or o BadJson ≡ Ok x → o ≡ Some x
 was_some None x e = absurd cc
 was_some (Some y) x e = cc
 
