@@ -1,6 +1,6 @@
 -- How a path goes on behind what was read of it.
 use Rattle.std.proofs.Common.{◌≡◌, ℕ, ◌+◌, ◌-◌, ◌<◌, ◌≤◌, List, [], ◌∷◌, ◌++◌, length, take, drop, map, Global, Result, Ok, Err, refl, sym, ap, ◌∙◌, append_assoc, append-nil, length-drop, arith}
-use Rattle.std.proofs.lemmas.List.{length-map, drop-map, drop-drop, drop_all, take_all, take_rest}
+use Rattle.std.proofs.lemmas.List.{length-map, drop-map, drop-drop, drop_all, take_rest}
 use Rattle.amm_command.specs.Seen.{seen}
 use Rattle.json.specs.declared.value.Value.{Value}
 use Rattle.amm_model.specs.declared.fault.Fault.{Fault}

@@ -5,6 +5,7 @@
 mod form;
 mod line;
 mod number;
+mod outermost;
 mod path;
 mod row;
 mod step;

@@ -2,7 +2,7 @@ use Rattle.std.proofs.Common.{◌≡◌, ◌==◌, drop, get_or, true, false, is
 use Rattle.fast_float.specs.Text.{scan}
 use Rattle.serde_json.specs.Read.{number_of, number_from}
 use Rattle.amm_command.proofs.Numerals.{number_of-minus, number_of-plain}
-use Rattle.amm_command.proofs.number.is_in_range.Goals as goal
+use Rattle.amm_command.proofs.number.is_any_in_range.Goals as goal
 
 pub returns-then-has_minus : goal.returns-then-has_minus
 returns-then-has_minus c =
