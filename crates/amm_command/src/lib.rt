@@ -4,8 +4,8 @@
 
 mod form;
 mod line;
+mod nested;
 mod number;
-mod outermost;
 mod path;
 mod row;
 mod step;
