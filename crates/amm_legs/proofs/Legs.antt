@@ -56,11 +56,3 @@ leg_of pools used held leg pool pool-is there unused paid within = record {
   gives = paid.3;
   pays = (rw pool-is at paid).4;
 }
-
-pub paid_of : (pools : List ProblemPool) (used : List ℕ) (held : Holdings) (leg : Leg) (pool : ProblemPool) →
-    pool ≡ get_or pools leg.pool no_pool → IsLeg pools used held leg → IsPaid pool leg
-paid_of pools used held leg pool pool-is legal = rw pool-is (legal.admissible, legal.positive, legal.room, legal.gives, legal.pays)
-
-pub within_of : (pools : List ProblemPool) (used : List ℕ) (held : Holdings) (leg : Leg) (pool : ProblemPool) →
-    pool ≡ get_or pools leg.pool no_pool → IsLeg pools used held leg → leg.input ≤ held (if leg.zero_in then (token0_of pool) else (token1_of pool))
-within_of pools used held leg pool pool-is legal = rw pool-is legal.within
