@@ -5,9 +5,9 @@ use Rattle.amm_model.specs.declared.fault.Refusal.TheVariants as code
 use Rattle.amm_model.specs.Ledger.{Ledger, Made, with_fee_to, with_setter}
 use Rattle.amm_model.specs.Pools.{same_name}
 use Rattle.amm_model.specs.Factory.{set_fee_to, set_setter}
-use Rattle.amm_model.specs.Sound.{IsSound, IsAtRest}
+use Rattle.amm_model.specs.Sound.{IsSound}
 use Rattle.amm_model.proofs.Guards.{not_refused, same_answer}
-use Rattle.amm_model.proofs.PlainSound.{fee_to_plain, fee_to_sound, fee_to_rest, fee_to_totals, setter_plain, setter_sound, setter_rest, setter_totals}
+use Rattle.amm_model.proofs.PlainSound.{fee_to_plain, fee_to_sound, fee_to_totals, setter_plain, setter_sound, setter_totals}
 use Rattle.amm_model.proofs.Keeping.{Keeps, plain_keeps}
 
 module _ (ledger : Ledger) (actor : List ℕ) (to : Holder) (made : Made (Unit {0})) (is : set_fee_to ledger actor to ≡ Ok made) where
@@ -23,9 +23,6 @@ module _ (ledger : Ledger) (actor : List ℕ) (to : Holder) (made : Made (Unit {
   pub set_fee_to_sound : IsSound ledger → IsSound made.ledger
   set_fee_to_sound sound = subst IsSound (sym set_fee_to_made) (fee_to_sound ledger to sound)
 
-  pub set_fee_to_rest : IsAtRest ledger → IsAtRest made.ledger
-  set_fee_to_rest rest = subst IsAtRest (sym set_fee_to_made) (fee_to_rest ledger to rest)
-
 module _ (ledger : Ledger) (actor to : List ℕ) (made : Made (Unit {0})) (is : set_setter ledger actor to ≡ Ok made) where
   pub set_setter_made : made.ledger ≡ with_setter ledger to
   unfolding set_setter
@@ -38,6 +35,3 @@ module _ (ledger : Ledger) (actor to : List ℕ) (made : Made (Unit {0})) (is : 
 
   pub set_setter_sound : IsSound ledger → IsSound made.ledger
   set_setter_sound sound = subst IsSound (sym set_setter_made) (setter_sound ledger to sound)
-
-  pub set_setter_rest : IsAtRest ledger → IsAtRest made.ledger
-  set_setter_rest rest = subst IsAtRest (sym set_setter_made) (setter_rest ledger to rest)
