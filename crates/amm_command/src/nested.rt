@@ -15,8 +15,9 @@ const USUAL_ELEMENTS: usize = 8;
 /// What is said of a text that is no JSON.
 pub const NO_JSON: Fault = Fault::Refused(Refusal::BadJson);
 
-/// The next value of the reader. Arrays and objects may nest `depth` deep.
+/// The next value of the reader. Arrays and objects may nest `depth` deep. It stands in line in the loop over an array, where most values are no arrays.
 #[cycle(nested)]
+#[inline(always)]
 pub fn nested<'t>(alloc: Global, reader: &mut Reader<'t>, depth: usize) -> Result<Value<'t>, Fault>
     ensures value { Gives (λ found. (value_view found, reader.new)) result
         (ok_or (value depth reader.old) BadJson) }
@@ -38,6 +39,7 @@ pub fn nested<'t>(alloc: Global, reader: &mut Reader<'t>, depth: usize) -> Resul
 
 /// The elements of an array, to its bracket.
 #[cycle(nested)]
+#[inline(never)]
 fn elements<'t>(
     alloc: Global,
     reader: &mut Reader<'t>,
@@ -57,6 +59,7 @@ fn elements<'t>(
 
 /// The members of an object, to its brace.
 #[cycle(nested)]
+#[inline(never)]
 fn members<'t>(
     alloc: Global,
     reader: &mut Reader<'t>,
