@@ -62,7 +62,7 @@ def main():
             print(f"  {name:66} {(best(path).user - opening.user) / 200_000 * 1e9:6.0f} ns of user time a line")
 
         print("memory against the length of the input, 1,000 users:")
-        for lines in (100_000, 1_000_000, 5_500_000):
+        for lines in (100_000, 1_000_000, 7_000_000):
             count, size = write_lines(path, plain_lines(1_000, lines))
             print(f"  {count:8} lines, {size:6.1f} MiB: {run(path)}")
 

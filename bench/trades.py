@@ -82,6 +82,7 @@ KINDS = [
     ("swapin, 1 hop", swap_along(1), 1),
     ("swapin, 2 hops", swap_along(2), 1),
     ("swapin, 3 hops", swap_along(3), 1),
+    ("swapin, 1 to 3 hops, drawn alike", lambda draw: swap_along(draw.randrange(1, 4))(draw), 1),
     ("flash, 1 loan", flash(1), 1),
     ("flash, 2 loans", flash(2), 1),
     ("flash, 4 loans", flash(4), 1),

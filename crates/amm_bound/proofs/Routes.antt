@@ -3,12 +3,10 @@ use Rattle.std.proofs.Common.{◌≡◌, ◌≢◌, ℕ, ◌+◌, ◌-◌, ◌*�
 use Rattle.std.specs.Prelude.{sum_by}
 use Rattle.std.specs.List.{AllByRecursion}
 use Rattle.std.specs.Bool.{Decides}
+use Rattle.std.proofs.lemmas.Bool.{false≢true}
 use Rattle.std.proofs.lemmas.List.Sums.{sum_by-cons}
 use Rattle.std.proofs.Math.Nat.{mul-le-mul_left}
 use Rattle.amm_model.proofs.Sums.{at, Once, In, sum_at, moved, exchanged, sum_by-le_each}
-
-false_true : false ≡ true → ⊥
-false_true e = cc
 
 -- what each token's net comes to, s being what the route starts from and t what it delivers
 nets-le : {T : Type 0} (same : T → T → Bool) (decides : (a b : T) → Decides (same a b) (a ≡ b)) (into out : T → ℕ) (s t : T) (d : ℕ) → s ≢ t →
@@ -30,7 +28,7 @@ nets-le same decides into out s t d apart spends covers y = pick (same y t) (sam
         let o : out y ≡ out s = ap out e in
         omega arith
     pick false false at_t at_s =
-        let c : into y ≤ out y = covers y (λ h. absurd (false_true (at_s.1 h))) in
+        let c : into y ≤ out y = covers y (λ h. absurd (false≢true (at_s.1 h))) in
         omega arith
 
 each_price-le : {T : Type 0} (p f g : T → ℕ) (ts : List T) → ((y : T) → f y ≤ g y) → AllByRecursion (λ y. p y * f y ≤ p y * g y) ts

@@ -19,7 +19,8 @@ use amm_num::root;
 const SCALE: u128 = 0x4000_0000;
 
 /// The most that a route can gain from a pool with this fee and these reserves, at these prices of
-/// its tokens, in units of price. Reserves are 1 to 2^48-1, prices 1 to 2^40-1.
+/// its tokens, in units of price. The fee is 1, 3 or 10 thousandths, reserves are 1 to 2^48-1,
+/// prices 1 to 2^40-1.
 pub fn worth(fee: u8, r0: u64, r1: u64, p0: u64, p1: u64) -> u128
     requires fee { IsFee fee }
     requires reserves { (1 ≤ r0) × (r0 < 2 ^ 48) × (1 ≤ r1) × (r1 < 2 ^ 48) }
@@ -52,8 +53,8 @@ fn margin(weight: u128, a: u128, b: u128) -> u128
     (a + b - twice_mean) / weight
 }
 
-/// The bound at the prices, of which there is one for each token of the problem: no route delivers
-/// more.
+/// The bound at the prices, in units of the target: no route delivers more. There is one price for
+/// each token of the problem, in the order of its tokens. The answer may be above 64 bits.
 pub fn bound(problem: &Problem, prices: &Prices) -> u128
     requires { length prices.now ≡ length problem.now.tokens }
     ensures value { result ≡ bound_of problem.now prices.now }

@@ -1,6 +1,5 @@
 -- The text of an array, item by item.
 use Rattle.std.proofs.Common.{◌≡◌, ℕ, ◌+◌, ◌<◌, List, [], ◌∷◌, ◌++◌, length, take, map, get_or, nat_lt, true, refl, sym, ap, ◌∙◌, append_assoc, append-nil, add-one, length-take-le, arith}
-use Rattle.std.specs.Prelude.{Result, Ok, Err, OnOk}
 use Rattle.std.proofs.Math.Seq.{take-suc}
 use Rattle.std.proofs.lemmas.List.{map-append, length-map}
 use Rattle.std.proofs.lemmas.Bool.Decides.{nat_tests}
@@ -61,8 +60,3 @@ closed old d ds =
     append_assoc (old ++ 91 ∷ compact_text d) (values_text ds) (93 ∷ [])
     ∙ append_assoc old (91 ∷ compact_text d) (values_text ds ++ 93 ∷ [])
     ∙ ap (λ s. old ++ s) (sym (list_text (d ∷ ds) ∙ ap (λ s. 91 ∷ s) (append_assoc (compact_text d) (values_text ds) (93 ∷ []))))
-
--- what follows from a clause on `Ok`
-pub on_ok : {X E : Type 0} {P Q : Type 0} (r : Result X E) → (P → Q) → OnOk r P → OnOk r Q
-on_ok (Ok x) so holds = so holds
-on_ok (Err e) so holds = tt

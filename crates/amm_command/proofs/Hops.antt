@@ -1,6 +1,6 @@
 -- How a path goes on behind what was read of it.
 use Rattle.std.proofs.Common.{◌≡◌, ℕ, ◌+◌, ◌-◌, ◌<◌, ◌≤◌, List, [], ◌∷◌, ◌++◌, length, take, drop, map, Global, Result, Ok, Err, refl, sym, ap, ◌∙◌, append_assoc, append-nil, length-drop, arith}
-use Rattle.std.proofs.lemmas.List.{length-map, drop-map, drop-drop, drop_all, take_all}
+use Rattle.std.proofs.lemmas.List.{length-map, drop-map, drop-drop, drop_all, take_rest}
 use Rattle.amm_command.specs.Seen.{seen}
 use Rattle.json.specs.declared.value.Value.{Value}
 use Rattle.amm_model.specs.declared.fault.Fault.{Fault}
@@ -71,9 +71,6 @@ along-end path = rw (append-nil path.tokens, append-nil path.fees) refl
 
 -- ---- the same, at a place in the values
 
-rest_of : {X : Type 0} (n : ℕ) (xs : List X) → take (length xs - n) (drop n xs) ≡ drop n xs
-rest_of n xs = take_all (length xs - n) (drop n xs) (omega (arith, length-drop n xs))
-
 some_left : (vs : List (Value Global)) (at : ℕ) → at < length vs → 0 < length (map seen (drop at vs))
 some_left vs at lt = rw (length-map (drop at vs), length-drop at vs) (omega arith)
 
@@ -82,17 +79,17 @@ pub next_at :
     hop_ahead (map seen (take (length vs - at) (drop at vs))) ≡ Ok (fee, token, count) →
     along (record { tokens = ts; fees = fs }) (map seen (drop at vs)) ≡ along (record { tokens = ts ++ token ∷ []; fees = fs ++ fee ∷ [] }) (map seen (drop (at + count) vs))
 next_at vs at ts fs fee token count lt is =
-    along-next (map seen (drop at vs)) ts fs fee token count (some_left vs at lt) (ap (λ xs. hop_ahead (map seen xs)) (sym (rest_of at vs)) ∙ is)
+    along-next (map seen (drop at vs)) ts fs fee token count (some_left vs at lt) (ap (λ xs. hop_ahead (map seen xs)) (sym (take_rest vs at)) ∙ is)
     ∙ ap (along (record { tokens = ts ++ token ∷ []; fees = fs ++ fee ∷ [] })) (drop-map seen count (drop at vs) ∙ ap (map seen) (drop-drop count at vs))
 
 pub stops_at :
     (vs : List (Value Global)) (at : ℕ) (path : RoutePath) (e : Fault) → at < length vs → Fails e (hop_ahead (map seen (take (length vs - at) (drop at vs)))) → Fails e (along path (map seen (drop at vs)))
 stops_at vs at path faults.Memory lt is = tt
 stops_at vs at path (faults.Refused why) lt is =
-    along-stops (map seen (drop at vs)) path why (some_left vs at lt) (ap (λ xs. hop_ahead (map seen xs)) (sym (rest_of at vs)) ∙ is)
+    along-stops (map seen (drop at vs)) path why (some_left vs at lt) (ap (λ xs. hop_ahead (map seen xs)) (sym (take_rest vs at)) ∙ is)
 
 pub ends_at : (vs : List (Value Global)) (at : ℕ) (path : RoutePath) → length vs ≤ at → along path (map seen (drop at vs)) ≡ Ok path
 ends_at vs at path le = ap (λ xs. along path (map seen xs)) (drop_all at vs le) ∙ along-end path
 
 pub within_at : {X : Type 0} (vs : List X) (at count : ℕ) → at < length vs → count ≤ length (take (length vs - at) (drop at vs)) → at + count ≤ length vs
-within_at vs at count lt le = omega (arith, ap length (rest_of at vs), length-drop at vs)
+within_at vs at count lt le = omega (arith, ap length (take_rest vs at), length-drop at vs)

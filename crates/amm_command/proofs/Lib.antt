@@ -4,3 +4,5 @@ pub mod Listed
 pub mod Hops
 pub mod Values
 pub mod Numerals
+pub mod Turns
+pub mod Firsts

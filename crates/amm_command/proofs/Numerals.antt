@@ -1,5 +1,5 @@
 -- The numbers that are whole and those in range, by the parts of their text.
-use Rattle.std.proofs.Common.{◌≡◌, ℕ, ◌^◌, ◌<◌, ◌==◌, List, drop, get_or, Bool, true, false, Float, ℤ, Option, Some, None, option_and_then, refl, arith}
+use Rattle.std.proofs.Common.{◌≡◌, ℕ, ◌^◌, ◌<◌, ◌==◌, List, drop, get_or, Bool, true, false, Float, ℤ, Option, Some, None, is_some, option_and_then, refl, arith}
 use Rattle.std.specs.Prelude.{if◌then◌else◌}
 use Rattle.std.specs.Option.{SomeIff}
 use Rattle.std.proofs.lemmas.Bool.Decides.{nat_tests}
@@ -27,3 +27,7 @@ negative_not_whole p = not_whole _ _ _ _
 pub whole_is : (p : Parts) (r : Option ℕ) → SomeIff r (IsInteger p × (digits_of p < 2 ^ 64)) (digits_of p) → r ≡ option_and_then as_u64 (number_from false p)
 whole_is p None h = grind (arith, nat_tests)
 whole_is p (Some n) h = grind (arith, nat_tests)
+
+pub whole_in_range : {A B : Type 0} (f : A → Option B) (a : Option A) → is_some (option_and_then f a) ≡ true → is_some a ≡ true
+whole_in_range f None some = some
+whole_in_range f (Some x) some = refl

@@ -17,6 +17,7 @@ use Rattle.amm_model.specs.declared.fault.Refusal.TheVariants.{BadJson}
 use Rattle.amm_model.specs.Outcome.{Fails}
 use Rattle.amm_model.specs.Forms.{as_list}
 use Rattle.amm_model.specs.Json.{json_value, elements}
+use Rattle.amm_model.proofs.Guards.{was_some, was_none}
 use Rattle.amm_model.proofs.Json.{json_value-none}
 use Rattle.amm_command.specs.Seen.{number_or_other, data_of, items_of, members_onto, seen, is_in_range, document}
 
@@ -139,23 +140,15 @@ unfolding seen
 with_data v None is some = absurd cc
 with_data v (Some d) is some = is ∙ ap Some (sym (data_is (value_view v) d is))
 
-without_data : {A : Type 0} (o : Option A) → is_some o ≡ false → o ≡ None
-without_data None e = refl
-without_data (Some x) e = absurd cc
-
-was_some : {A : Type 0} (o : Option A) (x : A) → ok_or o BadJson ≡ Ok x → o ≡ Some x
-was_some None x e = absurd cc
-was_some (Some y) x e = cc
-
 pub value_of_document : (bytes : List ℕ) (v : Value Global) → IsUtf8 bytes → ok_or (document bytes) BadJson ≡ Ok (value_view v) → is_in_range v ≡ true → json_value bytes ≡ Some (seen v)
 unfolding is_in_range
 value_of_document bytes v u is fits =
-    json_value-document bytes u ∙ ap (option_and_then of_json) (was_some (document bytes) (value_view v) is) ∙ with_data v (of_json (value_view v)) refl fits
+    json_value-document bytes u ∙ ap (option_and_then of_json) (was_some (document bytes) BadJson (value_view v) is) ∙ with_data v (of_json (value_view v)) refl fits
 
 pub no_value_of_document : (bytes : List ℕ) (v : Value Global) → IsUtf8 bytes → ok_or (document bytes) BadJson ≡ Ok (value_view v) → is_in_range v ≡ false → json_value bytes ≡ None
 unfolding is_in_range
 no_value_of_document bytes v u is fails =
-    json_value-document bytes u ∙ ap (option_and_then of_json) (was_some (document bytes) (value_view v) is) ∙ without_data (of_json (value_view v)) fails
+    json_value-document bytes u ∙ ap (option_and_then of_json) (was_some (document bytes) BadJson (value_view v) is) ∙ was_none (of_json (value_view v)) fails
 
 refused_too : {A B : Type 0} (f : A → Option B) (o : Option A) (e : Fault) → Fails e (ok_or o BadJson) → Fails e (ok_or (option_and_then f o) BadJson)
 refused_too f o faults.Memory h = tt

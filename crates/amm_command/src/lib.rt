@@ -4,6 +4,7 @@
 
 mod form;
 mod line;
+mod nested;
 mod number;
 mod path;
 mod row;

@@ -7,15 +7,14 @@ ghost use Rattle.amm_model.specs.Outcome.{Gives};
 ghost use Rattle.amm_model.specs.Json.{json_value};
 ghost use Rattle.amm_command.specs.Seen.{seen, document, is_in_range};
 
+use crate::nested::{NO_JSON, nested};
 use crate::number;
-use amm_model::{Fault, Refusal};
-use json::{Error, Reader, Scratch, Value};
+use amm_model::Fault;
+use json::{Reader, Scratch, Value};
 use std::alloc::Global;
 
 /// How deep arrays and objects may nest.
 const MAX_DEPTH: usize = 127;
-
-const NO_JSON: Fault = Fault::Refused(Refusal::BadJson);
 
 /// The value that the bytes of a line are.
 #[tactic(auto, using(crate::proofs::Values::value_of_document, crate::proofs::Values::no_value_of_document, crate::proofs::Values::refused_document, crate::proofs::Values::no_value_of_bytes))]
@@ -43,11 +42,7 @@ fn document<'t>(alloc: Global, text: &'t str, scratch: &'t mut Scratch) -> Resul
     ensures { Gives value_view result (ok_or (document text.now) BadJson) }
 {
     let mut reader = Reader::new(text, scratch)?;
-    let value = match Value::read(alloc, &mut reader, MAX_DEPTH) {
-        Ok(value) => value,
-        Err(Error::OutOfMemory) => return Err(Fault::Memory),
-        Err(_) => return Err(NO_JSON),
-    };
+    let value = nested(alloc, &mut reader, MAX_DEPTH)?;
     if reader.next().is_some() {
         return Err(NO_JSON);
     }

@@ -1,5 +1,5 @@
 -- What every accepted command keeps, and so every line.
-use Rattle.std.proofs.Common.{◌≡◌, ◌≢◌, ◌≤◌, ◌+◌, ◌∷◌, ◌∙◌, ℕ, List, [], Result, Ok, Err, sym, ap, subst, refl, arith}
+use Rattle.std.proofs.Common.{◌≡◌, ◌≢◌, ◌∷◌, ◌∙◌, ℕ, List, [], Result, Ok, Err, sym, ap, subst, refl, arith}
 use Rattle.std.specs.Prelude.{MatchResult, ok_or}
 use Rattle.amm_names.specs.declared.holder.Holder.TheVariants as holders
 use Rattle.amm_names.specs.declared.holder.Asset.TheVariants as assets
@@ -25,6 +25,7 @@ use Rattle.amm_model.specs.Reading.{command_of_line}
 use Rattle.amm_model.specs.Runs.{Step, FairStep, one_reply, TotalsMoved, TotalsMovedBy}
 use Rattle.amm_model.proofs.Guards.{given, same_answer}
 use Rattle.amm_model.proofs.Keeping.{Keeps, plain_keeps, rest_kept}
+use Rattle.amm_model.proofs.Laters.{kept_rest}
 use Rattle.amm_model.proofs.PlainSound.{list_listed, list_plain, list_rest, list_totals, issue_plain, issue_rest, issue_deposited, retire_plain, retire_rest, retire_withdrawn, set_time_plain, set_time_sound, set_time_totals}
 use Rattle.amm_factory.proofs.Settings.{set_fee_to_keeps, set_fee_to_sound, set_setter_keeps, set_setter_sound}
 use Rattle.amm_model.proofs.Fitting.{reads_fitting}
@@ -42,7 +43,7 @@ pub record Promised (asked : CommandView) (old new : Ledger) (answer : Answer) :
 promised_by : (asked : CommandView) (old : Ledger) (made : Made Answer) → Keeps old made.ledger → (IsSound old → IsSound made.ledger)
     → (TokenTotalsKept old made.ledger → TotalsMoved asked made.answer old made.ledger) → IsAccepted made.answer → Promised asked old made.ledger made.answer
 promised_by asked old made keeps sound totals told =
-    record { rest = λ rest. rest_kept old made.ledger rest keeps (sound rest.sound); zero = keeps.zero; totals = totals keeps.totals; told = told }
+    record { rest = λ rest. rest_kept old made.ledger rest keeps.no_other (sound rest.sound); zero = keeps.zero; totals = totals keeps.totals; told = told }
 
 deposit_promised : (old : Ledger) (user token : List ℕ) (n : ℕ) (made : Made Answer) → deposit old user token n ≡ Ok made
     → Promised (command.deposit user token n) old made.ledger made.answer
@@ -118,7 +119,7 @@ promised old (command.total asset) made fits is =
     asked_only (command.total asset) old (known old asset) _ made (λ x token. refl) (λ x. record { accepted = λ why e. cc; written = tt }) is
 promised old (command.act actor step) made fits is =
     let kept = step_kept step old actor made fits.1 is in
-    promised_by (command.act actor step) old made kept.keeps kept.sound (λ same. same) (step_told old actor step made is)
+    record { rest = kept_rest old made.ledger kept; zero = kept.zero; totals = kept.later.totals; told = step_told old actor step made is }
 promised old (command.quote_out path n) made fits is =
     asked_only (command.quote_out path n) old (amounts_out old path n) answers.QuoteOut made (λ x token. refl) (λ x. record { accepted = λ why e. cc; written = tt }) is
 promised old (command.quote_in path n) made fits is =

@@ -8,7 +8,7 @@ use Rattle.amm_model.specs.declared.line.Line.TheVariants.{Blank, Whole, Long}
 use Rattle.amm_model.specs.declared.reply.Answer.{Answer}
 use Rattle.amm_model.specs.declared.reply.Answer.TheVariants.{Refused}
 use Rattle.amm_model.specs.CommandView.{CommandView}
-use Rattle.amm_model.specs.Ledger.{Ledger, Made, Outcome}
+use Rattle.amm_model.specs.Ledger.{Ledger, Outcome}
 use Rattle.amm_model.specs.Meaning.{outcome_of}
 use Rattle.amm_model.specs.Answers.{answered, left_by}
 use Rattle.amm_model.specs.Reading.{command_of_line}
@@ -63,8 +63,3 @@ AnswersCommand-refused old number asked text new d is = record {
   is = d.is ∙ ap (λ (o : Outcome Answer). reply_text (record { line = number; answer = answered o })) (sym d.gives);
   left = is ∙ ap (left_by old) (sym d.gives);
 }
-
--- what follows from a promise follows from the same promise on success
-pub on_ok_by : {A E P Q : Type 0} (result : Result A E) → OnOk result P → (P → Q) → OnOk result Q
-on_ok_by (Ok x) holds more = more holds
-on_ok_by (Err why) holds more = tt

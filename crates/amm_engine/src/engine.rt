@@ -49,14 +49,14 @@ impl Model for Engine {
 }
 
 impl Engine {
-    /// An engine on the opening ledger.
+    /// An engine on the opening ledger, whose tables hash from a seed that everybody knows.
     pub fn new(alloc: Global) -> Result<Engine, Memory>
         ensures { IfOk result (λ engine. engine ≡ opening_ledger) }
     {
         Engine::with_seed(alloc, Seed::new(0))
     }
 
-    /// The same, whose tables hash from a seed.
+    /// The same, whose tables hash from this seed. No clause speaks of it.
     pub fn with_seed(alloc: Global, seed: Seed) -> Result<Engine, Memory>
         ensures { IfOk result (λ engine. engine ≡ opening_ledger) }
     {
@@ -74,8 +74,8 @@ impl Engine {
         self.state.as_ref().unwrap().book()
     }
 
-    /// Answers one line: the text of its reply, nothing for a blank line. A line that is refused changes nothing, and
-    /// neither does one whose reply finds no memory.
+    /// Answers one line: the text of its reply with its newline, nothing for a blank line. The number is the one that the reply
+    /// bears. A line that is refused changes nothing, and neither does one whose reply finds no memory.
     pub fn step(&mut self, alloc: Global, number: u64, line: &Line) -> Result<Vec<u8>, Memory>
         ensures ok { IfOk result (λ text. AnswersLine self.old number line.now text.items self.new) }
         ensures err { OnErr result (self.new ≡ self.old) }
@@ -101,7 +101,7 @@ impl Engine {
                 text.clear();
                 Ok(())
             }
-            Line::Long => write_reply(text, number, Answer::Refused(Refusal::LongLine)),
+            Line::Long => write_reply(text, number, &Answer::Refused(Refusal::LongLine)),
             Line::Whole(bytes) => self.answer_whole(alloc, number, bytes.as_slice(), text),
         }
     }
@@ -127,7 +127,7 @@ impl Engine {
     {
         match self.read(alloc, bytes) {
             Ok(command) => self.answer_command(alloc, number, &command, text),
-            Err(Fault::Refused(why)) => write_reply(text, number, Answer::Refused(why)),
+            Err(Fault::Refused(why)) => write_reply(text, number, &Answer::Refused(why)),
             Err(Fault::Memory) => Err(Memory),
         }
     }
@@ -152,6 +152,7 @@ impl Engine {
 
     /// Answers each line of a source as it ends, up to 2^30 bytes of them. Whatever ends it, the ledger is then the one
     /// after the lines whose replies are wholly written; only a failed write or want of memory may leave it one line further.
+    /// The statuses are Done, ReadFault, WriteFault, Memory and InputLimit.
     pub fn serve<S: Source, K: Sink>(
         &mut self,
         alloc: Global,

@@ -8,24 +8,18 @@ ghost use Rattle.amm_model.specs.ReplyText.{reply_text, CanBeWritten};
 ghost use Rattle.amm_engine.specs.Commands.{AnswersCommand, Accepted, Declined};
 
 use crate::command::perform;
-use amm_model::{Answer, Command, Fault, Memory, Reply};
-use amm_reply::append;
+use amm_model::{Answer, Command, Fault, Memory};
+use amm_reply::append_answer;
 use amm_state::{State, Tx};
 use std::alloc::Global;
 
 /// Makes the text that of the reply.
-pub(crate) fn write_reply(text: &mut Vec<u8>, number: u64, answer: Answer) -> Result<(), Memory>
-    requires { CanBeWritten answer }
-    ensures { OnOk result (text.new.items ≡ reply_text (record { line = number; answer = answer })) }
+pub(crate) fn write_reply(text: &mut Vec<u8>, number: u64, answer: &Answer) -> Result<(), Memory>
+    requires { CanBeWritten answer.now }
+    ensures { OnOk result (text.new.items ≡ reply_text (record { line = number; answer = answer.now })) }
 {
     text.clear();
-    append(
-        text,
-        &Reply {
-            line: number,
-            answer,
-        },
-    )
+    append_answer(text, number, answer)
 }
 
 /// Does a command in a transaction of its own. The reply's text is made before the ledger is kept, and a refused command
@@ -66,11 +60,11 @@ fn try_command(
 {
     match perform(alloc, tx, command) {
         Ok(answer) => {
-            write_reply(text, number, answer)?;
+            write_reply(text, number, &answer)?;
             Ok(true)
         }
         Err(Fault::Refused(why)) => {
-            write_reply(text, number, Answer::Refused(why))?;
+            write_reply(text, number, &Answer::Refused(why))?;
             Ok(false)
         }
         Err(Fault::Memory) => Err(Memory),

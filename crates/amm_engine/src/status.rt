@@ -11,9 +11,13 @@ pub enum Status {
     No,
     /// The words ask for nothing that the program does.
     Usage,
+    /// A read failed.
     ReadFault,
+    /// A write failed.
     WriteFault,
+    /// There was no memory.
     Memory,
+    /// The input has more than 2^30 bytes.
     InputLimit,
 }
 

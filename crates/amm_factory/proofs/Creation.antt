@@ -1,5 +1,5 @@
 -- What an accepted creation leaves.
-use Rattle.std.proofs.Common.{◌≡◌, ℕ, Bool, true, false, not, ◌||◌, List, Option, Some, None, Ok, IsSome, ◌⊎◌, inl, inr, refl, sym, ap, ◌∙◌, subst, cond, arith}
+use Rattle.std.proofs.Common.{◌≡◌, ℕ, Bool, true, false, not, ◌||◌, List, Some, None, Ok, ◌⊎◌, inl, inr, refl, sym, ap, ◌∙◌, subst, arith}
 use Rattle.std.specs.Prelude.{IsTrue, if◌then◌else◌, ok_or}
 use Rattle.std.specs.Option.{is_some}
 use Rattle.std.specs.declared.cmp.Ordering.TheVariants.{Less, Equal, Greater}
@@ -7,6 +7,7 @@ use Rattle.std.specs.declared.cmp.Ordering.{Ordering}
 use Rattle.std.specs.Ordering.{is_lt, is_eq, ordering_reverse, nat_cmp}
 use Rattle.std.specs.Str.{bytes_eq}
 use Rattle.std.specs.Cmp.Lexicographic.{slice_cmp}
+use Rattle.std.proofs.lemmas.Bool.{not-false, or_parts}
 use Rattle.std.proofs.lemmas.Cmp.{nat_list_cmp_total}
 use Rattle.std.proofs.lemmas.Map.Text.{is_eq-slice_cmp}
 use Rattle.amm_names.specs.Names.{is_token_name}
@@ -15,13 +16,11 @@ use Rattle.amm_names.specs.Spelling.{token0_of_spelling, token1_of_spelling}
 use Rattle.amm_model.specs.declared.fault.Refusal.TheVariants as code
 use Rattle.amm_model.specs.Ledger.{Ledger, Made, is_listed, pair_of, add_pair, zero_pair}
 use Rattle.amm_model.specs.Factory.{create}
-use Rattle.amm_model.specs.Sound.{IsSound, IsAtRest}
-use Rattle.amm_model.proofs.Guards.{given, not_refused, same_answer}
-use Rattle.amm_model.specs.declared.pair.PairRecord.{PairRecord}
-use Rattle.amm_model.specs.Pools.{same_name}
-use Rattle.amm_model.proofs.Names.{some_there}
-use Rattle.amm_model.proofs.PairSound.{add_pair_made, add_pair_sound, add_pair_rest, one_more_pair, found_before, found_last}
-use Rattle.amm_model.proofs.Keeping.{Keeps, SameSettings}
+use Rattle.amm_model.specs.Sound.{IsSound}
+use Rattle.amm_model.proofs.Guards.{given, not_refused, same_answer, was_some, was_none}
+use Rattle.amm_model.proofs.PairSound.{add_pair_made, add_pair_sound, one_more_pair, found_before, pair_stays, pair_cases}
+use Rattle.amm_model.proofs.Keeping.{Keeps, SameSettings, free_not_locked}
+use Rattle.amm_model.proofs.Laters.{Kept, kept_of}
 
 -- the pool, between two listed tokens, was not there; it was added
 pub record Created (old : Ledger) (a b : List ℕ) (fee : ℕ) (pool : List ℕ) (made : Ledger) : Type 0 where
@@ -33,19 +32,6 @@ pub record Created (old : Ledger) (a b : List ℕ) (fee : ℕ) (pool : List ℕ)
   pub adds : add_pair old pool ≡ Ok added
   pub after : made ≡ added.ledger
 
-both_listed : (x y : Bool) → (not x || not y) ≡ false → (x ≡ true) × (y ≡ true)
-both_listed true true e = (refl, refl)
-both_listed true false e = cc
-both_listed false y e = cc
-
-none_there : {X : Type 0} (o : Option X) → is_some o ≡ false → o ≡ None
-none_there None e = refl
-none_there (Some x) e = cc
-
-was_some : {E X : Type 0} (o : Option X) (why : E) (x : X) → ok_or o why ≡ Ok x → o ≡ Some x
-was_some None why x e = cc
-was_some (Some y) why x e = ap Some (same_answer y x e)
-
 pub create_created : (ledger : Ledger) (a b : List ℕ) (fee : ℕ) (made : Made (List ℕ)) → create ledger a b fee ≡ Ok made → Created ledger a b fee made.answer made.ledger
 unfolding create
 create_created ledger a b fee made is =
@@ -55,12 +41,12 @@ create_created ledger a b fee made is =
     let new = not_refused (is_some (pair_of ledger.pairs pool)) code.PairExists _ made listed.1 in
     let last = given (add_pair ledger pool) _ made new.1 in
     let e = same_answer (record { ledger = last.value.ledger; answer = pool }) made last.after in
-    let both = both_listed (is_listed ledger.tokens a) (is_listed ledger.tokens b) listed.0 in
+    let both = or_parts (not (is_listed ledger.tokens a)) (not (is_listed ledger.tokens b)) listed.0 in
     subst (λ (m : Made (List ℕ)). Created ledger a b fee m.answer m.ledger) e record {
       between = was_some (pool_between a b fee) code.Identical pool named.was;
-      first = both.0;
-      second = both.1;
-      absent = none_there (pair_of ledger.pairs pool) new.0;
+      first = not-false (is_listed ledger.tokens a) both.0;
+      second = not-false (is_listed ledger.tokens b) both.1;
+      absent = was_none (pair_of ledger.pairs pool) new.0;
       added = last.value;
       adds = last.was;
       after = refl;
@@ -113,32 +99,16 @@ module _ (ledger : Ledger) (a b : List ℕ) (fee : ℕ) (made : Made (List ℕ))
   pub create_sound : IsSound ledger → IsSound made.ledger
   create_sound sound = subst IsSound (sym c.after) (add_pair_sound ledger made.answer c.added c.adds c.absent both.0 both.1 sound)
 
-  pub create_rest : IsAtRest ledger → IsAtRest made.ledger
-  create_rest rest = subst IsAtRest (sym c.after) (add_pair_rest ledger made.answer c.added c.adds c.absent both.0 both.1 rest)
-
 -- ---- what a creation keeps
 
-free_as_created : (pair : PairRecord) (b : Bool) → cond b (Some zero_pair) None ≡ Some pair → pair.locked ≡ true → ⊥
-free_as_created pair true gives shut = let same : zero_pair.locked ≡ pair.locked = ap (λ (p : PairRecord). p.locked) (same_value zero_pair pair gives) in cc
-  where
-    same_value : (x y : PairRecord) → Some x ≡ Some y → x ≡ y
-    same_value x y e = cc
-free_as_created pair false gives shut = cc
-
-nobody_there : IsSome {T = PairRecord} None → ⊥
-nobody_there there = cc
-
-new_pair_keeps : (ledger : Ledger) (pool : List ℕ) → Keeps ledger (one_more_pair ledger pool)
-new_pair_keeps ledger pool = record {
-  stays = λ q is. elim (pair_of ledger.pairs q) as (λ o. pair_of ledger.pairs q ≡ o → IsSome o → IsSome (pair_of (one_more_pair ledger pool).pairs q)) [
-    | Some x ↦ λ was there. some_there (pair_of (one_more_pair ledger pool).pairs q) x (found_before ledger.pairs pool zero_pair q x was)
-    | None ↦ λ was there. absurd (nobody_there there)
-  ] refl is;
+new_pair_keeps : (ledger : Ledger) (pool : List ℕ) → pair_of ledger.pairs pool ≡ None → Keeps ledger (one_more_pair ledger pool)
+new_pair_keeps ledger pool absent = record {
+  stays = pair_stays ledger pool;
   locked = λ q pair is shut. found_before ledger.pairs pool zero_pair q pair is;
-  no_other = λ q pair is shut. elim (pair_of ledger.pairs q) as (λ o. pair_of ledger.pairs q ≡ o → pair_of ledger.pairs q ≡ Some pair) [
-    | Some x ↦ λ was. was ∙ sym (found_before ledger.pairs pool zero_pair q x was) ∙ is
-    | None ↦ λ was. absurd (free_as_created pair (same_name q pool) (sym (found_last ledger.pairs pool zero_pair q was) ∙ is) shut)
-  ] refl;
+  no_other = λ q pair is shut. elim (pair_cases ledger pool q pair absent is) [
+    | inl was ↦ was
+    | inr new ↦ absurd (free_not_locked zero_pair pair refl (sym new.1) shut)
+  ];
   zero = λ q. omega arith;
   totals = λ token. refl;
 }
@@ -146,15 +116,14 @@ new_pair_keeps ledger pool = record {
 same_with_pair : (ledger : Ledger) (pool : List ℕ) → SameSettings ledger (one_more_pair ledger pool)
 same_with_pair ledger pool = record { tokens = refl; fee_to = refl; setter = refl; time = refl; quotes = refl; observations = refl }
 
-module _ (ledger : Ledger) (a b : List ℕ) (fee : ℕ) (made : Made (List ℕ)) (is : create ledger a b fee ≡ Ok made) where
+module _ (ledger : Ledger) (a b : List ℕ) (fee : ℕ) (made : Made (List ℕ)) (first : IsTrue (is_token_name a)) (second : IsTrue (is_token_name b)) (at_a_fee : IsTrue (is_fee fee))
+    (is : create ledger a b fee ≡ Ok made) where
   abbrev new : Created ledger a b fee made.answer made.ledger
   new = create_created ledger a b fee made is
 
   made_is : made.ledger ≡ one_more_pair ledger made.answer
   made_is = new.after ∙ (add_pair_made ledger made.answer new.added new.adds).1
 
-  pub create_keeps : Keeps ledger made.ledger
-  create_keeps = subst (Keeps ledger) (sym made_is) (new_pair_keeps ledger made.answer)
-
-  pub create_same_settings : SameSettings ledger made.ledger
-  create_same_settings = subst (SameSettings ledger) (sym made_is) (same_with_pair ledger made.answer)
+  pub create_kept : Kept ledger made.ledger
+  create_kept = kept_of ledger made.ledger (subst (Keeps ledger) (sym made_is) (new_pair_keeps ledger made.answer new.absent)) (subst (SameSettings ledger) (sym made_is) (same_with_pair ledger made.answer))
+      (create_sound ledger a b fee made first second at_a_fee is)

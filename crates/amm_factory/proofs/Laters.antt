@@ -6,9 +6,7 @@ use Rattle.amm_names.specs.Pools.{is_fee}
 use Rattle.amm_model.specs.Ledger.{Ledger, Made}
 use Rattle.amm_model.specs.Factory.{create}
 use Rattle.amm_model.specs.Later.{Later}
-use Rattle.amm_model.proofs.Laters.{later_of}
-use Rattle.amm_factory.proofs.Creation.{create_sound, create_keeps, create_same_settings}
+use Rattle.amm_factory.proofs.Creation.{create_kept}
 
 pub later_create : (ledger : Ledger) (a b : List ℕ) (fee : ℕ) (made : Made (List ℕ)) → IsTrue (is_token_name a) → IsTrue (is_token_name b) → IsTrue (is_fee fee) → create ledger a b fee ≡ Ok made → Later ledger made.ledger
-later_create ledger a b fee made first second at_a_fee is =
-    later_of ledger made.ledger (create_keeps ledger a b fee made is) (create_same_settings ledger a b fee made is) (create_sound ledger a b fee made first second at_a_fee is)
+later_create ledger a b fee made first second at_a_fee is = (create_kept ledger a b fee made first second at_a_fee is).later

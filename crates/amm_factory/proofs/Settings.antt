@@ -1,14 +1,18 @@
 -- What an accepted change of the settings leaves.
-use Rattle.std.proofs.Common.{◌≡◌, ℕ, not, List, Ok, sym, ap, subst}
+use Rattle.std.proofs.Common.{◌≡◌, ℕ, not, List, Ok, refl, sym, ap, subst}
 use Rattle.amm_names.specs.declared.holder.Holder.{Holder}
 use Rattle.amm_model.specs.declared.fault.Refusal.TheVariants as code
 use Rattle.amm_model.specs.Ledger.{Ledger, Made, with_fee_to, with_setter}
 use Rattle.amm_model.specs.Pools.{same_name}
 use Rattle.amm_model.specs.Factory.{set_fee_to, set_setter}
-use Rattle.amm_model.specs.Sound.{IsSound, IsAtRest}
+use Rattle.amm_model.specs.Sound.{IsSound}
 use Rattle.amm_model.proofs.Guards.{not_refused, same_answer}
-use Rattle.amm_model.proofs.PlainSound.{fee_to_plain, fee_to_sound, fee_to_rest, fee_to_totals, setter_plain, setter_sound, setter_rest, setter_totals}
+use Rattle.amm_model.proofs.PlainSound.{set_plain, set_sound}
 use Rattle.amm_model.proofs.Keeping.{Keeps, plain_keeps}
+
+-- other settings keep so much
+set_keeps : (ledger : Ledger) (fee_to : Holder) (setter : List ℕ) → Keeps ledger (record ledger { fee_to = fee_to; setter = setter })
+set_keeps ledger fee_to setter = plain_keeps ledger (record ledger { fee_to = fee_to; setter = setter }) (set_plain ledger fee_to setter ledger.time) (λ token. refl)
 
 module _ (ledger : Ledger) (actor : List ℕ) (to : Holder) (made : Made (Unit {0})) (is : set_fee_to ledger actor to ≡ Ok made) where
   pub set_fee_to_made : made.ledger ≡ with_fee_to ledger to
@@ -18,13 +22,10 @@ module _ (ledger : Ledger) (actor : List ℕ) (to : Holder) (made : Made (Unit {
       ap (λ (m : Made (Unit {0})). m.ledger) (sym (same_answer (record { ledger = with_fee_to ledger to; answer = tt }) made past.1))
 
   pub set_fee_to_keeps : Keeps ledger made.ledger
-  set_fee_to_keeps = subst (Keeps ledger) (sym set_fee_to_made) (plain_keeps ledger (with_fee_to ledger to) (fee_to_plain ledger to) (fee_to_totals ledger to))
+  set_fee_to_keeps = subst (Keeps ledger) (sym set_fee_to_made) (set_keeps ledger to ledger.setter)
 
   pub set_fee_to_sound : IsSound ledger → IsSound made.ledger
-  set_fee_to_sound sound = subst IsSound (sym set_fee_to_made) (fee_to_sound ledger to sound)
-
-  pub set_fee_to_rest : IsAtRest ledger → IsAtRest made.ledger
-  set_fee_to_rest rest = subst IsAtRest (sym set_fee_to_made) (fee_to_rest ledger to rest)
+  set_fee_to_sound sound = subst IsSound (sym set_fee_to_made) (set_sound ledger to ledger.setter ledger.time sound.time sound)
 
 module _ (ledger : Ledger) (actor to : List ℕ) (made : Made (Unit {0})) (is : set_setter ledger actor to ≡ Ok made) where
   pub set_setter_made : made.ledger ≡ with_setter ledger to
@@ -34,10 +35,7 @@ module _ (ledger : Ledger) (actor to : List ℕ) (made : Made (Unit {0})) (is : 
       ap (λ (m : Made (Unit {0})). m.ledger) (sym (same_answer (record { ledger = with_setter ledger to; answer = tt }) made past.1))
 
   pub set_setter_keeps : Keeps ledger made.ledger
-  set_setter_keeps = subst (Keeps ledger) (sym set_setter_made) (plain_keeps ledger (with_setter ledger to) (setter_plain ledger to) (setter_totals ledger to))
+  set_setter_keeps = subst (Keeps ledger) (sym set_setter_made) (set_keeps ledger ledger.fee_to to)
 
   pub set_setter_sound : IsSound ledger → IsSound made.ledger
-  set_setter_sound sound = subst IsSound (sym set_setter_made) (setter_sound ledger to sound)
-
-  pub set_setter_rest : IsAtRest ledger → IsAtRest made.ledger
-  set_setter_rest rest = subst IsAtRest (sym set_setter_made) (setter_rest ledger to rest)
+  set_setter_sound sound = subst IsSound (sym set_setter_made) (set_sound ledger ledger.fee_to to ledger.time sound.time sound)

@@ -1,5 +1,5 @@
 -- What a borrower's calls promise of the ledger that it leaves.
-use Rattle.std.proofs.Common.{◌≡◌, Result, Ok, Err, OnOk, refl, sym, ◌∙◌}
+use Rattle.std.proofs.Common.{◌≡◌, Result, Ok, Err, refl, sym, ◌∙◌}
 use Rattle.amm_model.specs.declared.fault.Fault.{Fault}
 use Rattle.amm_model.specs.declared.fault.Fault.TheVariants as fault
 use Rattle.amm_model.specs.Ledger.{Made, Outcome}
@@ -21,9 +21,3 @@ pub later_when_clean : {A : Type 0} (old new : Progress) (answer : Result A Faul
 later_when_clean old new (Ok a) outcome meets promise clean = promise _ meets.gives
 later_when_clean old new (Err (fault.Refused why)) outcome meets promise clean = absurd (let both : mark.Refused why ≡ mark.Clean = sym meets.mark ∙ clean in cc)
 later_when_clean old new (Err fault.Memory) outcome meets promise clean = absurd (let both : mark.NoMemory ≡ mark.Clean = sym meets.mark ∙ clean in cc)
-
--- what an accepted outcome promises, an accepted call promises
-pub later_on_ok : {A : Type 0} (old new : Progress) (answer : Result A Fault) (outcome : Outcome A) → Meets old new answer outcome
-    → ((made : Made A) → outcome ≡ Ok made → Later old.present made.ledger) → OnOk answer (Later old.present new.present)
-later_on_ok old new (Ok a) outcome meets promise = promise _ meets.gives
-later_on_ok old new (Err fault) outcome meets promise = tt

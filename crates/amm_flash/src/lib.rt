@@ -57,11 +57,12 @@ fn end_of(mark: Mark, answer: Result<(), Fault>) -> Mark
     }
 }
 
-/// Lends to the actor, lets the borrower run, and asks for the return.
+/// Lends `out0` and `out1` units of the pool's two tokens to the actor, lets the borrower run, and asks for the return.
 ///
 /// Refused by what refuses the loan (NO_PAIR, LOCKED, INSUFFICIENT_OUTPUT_AMOUNT, INSUFFICIENT_LIQUIDITY), then by the
 /// end of the borrower's call, then by what refuses the return (INSUFFICIENT_INPUT_AMOUNT, K, OVERFLOW). After a code
-/// that is not one of the loan's, the present ledger is the one that the borrower left.
+/// that is not one of the loan's, the present ledger is the one that the borrower left. `Fault::Memory` where any of the
+/// three ends by it.
 pub fn flash<B: Borrower>(
     alloc: Global,
     tx: &mut Tx,

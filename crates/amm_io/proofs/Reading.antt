@@ -176,33 +176,6 @@ Reading-last left_before left_now first now mid part later line r o same met som
       at_end = r.at_end (sym same.met ∙ met);
     })))
 
--- the input is at its end, and nothing of the part came
-pub Reading-none : (left_before left_now : Option (List ℕ)) (first now mid : Stream) (part later : Beginning)
-    → Reading left_before left_now first now part → LeavesOpen now mid part later → SameCounts now mid → mid.met ≡ Some stop.EndOfInput
-    → ((seen : List ℕ) → Holds later seen → seen ≡ []) → TakesNext left_before left_now first mid (Ok None)
-Reading-none left_before left_now first now mid part later r o same met none =
-    let within : mid.taken ≤ mid.limit = omega (arith, r.settled.ended (sym same.met ∙ met), same.taken, same.limit) in
-    Reading-gives _ _ _ _ _ _ _ r same.taken same.limit (record {
-      nothing = hand_is _ _ first now mid part later r o within ∙ none (r.seen ++ o.front) (o.grown r.seen r.holds);
-      drained = o.none within;
-      met = met;
-      within = within;
-      at_end = r.at_end (sym same.met ∙ met);
-    })
-
-pub Reading-fault : (left_before left_now : Option (List ℕ)) (first now mid : Stream) (part later : Beginning)
-    → Reading left_before left_now first now part → LeavesOpen now mid part later → SameCounts now mid → mid.met ≡ Some stop.ReadFault
-    → TakesNext left_before left_now first mid (Err end.ReadFault)
-Reading-fault left_before left_now first now mid part later r o same met =
-    let within : mid.taken ≤ mid.limit = omega (arith, r.settled.faulted (sym same.met ∙ met), same.taken, same.limit) in
-    let hand = sym (hand_is _ _ first now mid part later r o within) in
-    Reading-gives _ _ _ _ _ _ _ r same.taken same.limit (record {
-      unbroken = subst IsUnbroken hand (IsUnbroken-append r.seen o.front r.unbroken o.unbroken);
-      drained = o.none within;
-      met = met;
-      within = within;
-    })
-
 pub Reading-limit : (left_before left_now : Option (List ℕ)) (first now mid last : Stream) (part later : Beginning)
     → Reading left_before left_now first now part → LeavesOpen now mid part later → SameCounts now mid → mid.met ≡ Some stop.InputLimit
     → last ≡ record mid { kept = [] } → TakesNext left_before left_now first last (Err end.InputLimit)
@@ -218,19 +191,6 @@ Reading-limit left_before left_now first now mid last part later r o same met is
       met = met;
       passed = omega (arith, passed, same.taken, same.limit);
     }))
-
-pub Reading-memory : (left_before left_now : Option (List ℕ)) (first now mid last : Stream) (part : Beginning)
-    → Reading left_before left_now first now part → SameCounts now mid → last ≡ record mid { kept = []; met = Some stop.Memory }
-    → TakesNext left_before left_now first last (Err end.Memory)
-Reading-memory left_before left_now first now mid last part r same is =
-    rw is (Reading-gives _ _ _ _ _ _ _ r same.taken same.limit (record { drained = refl; met = refl }))
-
--- want of memory was met before
-pub Reading-memory_again : (left_before left_now : Option (List ℕ)) (first now mid last : Stream) (part : Beginning)
-    → Reading left_before left_now first now part → SameCounts now mid → mid.met ≡ Some stop.Memory → last ≡ record mid { kept = [] }
-    → TakesNext left_before left_now first last (Err end.Memory)
-Reading-memory_again left_before left_now first now mid last part r same met is =
-    rw is (Reading-gives _ _ _ _ _ _ _ r same.taken same.limit (record { drained = refl; met = met }))
 
 -- an end that was met before is met again
 pub again : (left : Option (List ℕ)) (first : Stream) (s : Stop) → first.kept ≡ [] → first.met ≡ Some s → IsSettled first → TakesNext left left first first (again_of s)

@@ -20,7 +20,8 @@ pub trait Source {
     /// How often the source has failed.
     ghost faults: { Self → ℕ };
 
-    /// Gives the next bytes, and says how many: 0 for a buffer that is not empty only at the end of the input.
+    /// Gives the next bytes, and says how many: 0 for a buffer that is not empty only at the end of the input. `Err` comes only
+    /// where the count of faults rose.
     fn read(&mut self, buf: &mut [u8]) -> Result<usize, Failed>
         ensures bound { ReadsAtMost result buf.new }
         ensures bytes { ReadConsumes (left self.old) (left self.new) result buf.new }

@@ -1,5 +1,6 @@
-// Readers and writers of std as sources and sinks. They tell no content.
-ghost use Rattle.std.specs.Prelude.{◌≡◌, None};
+// Readers and writers of std as sources and sinks. They tell what the reader and the writer tell: standard input and
+// output tell nothing.
+ghost use Rattle.std.specs.Prelude.{◌≡◌};
 
 use crate::{Failed, IoFail, Sink, Source};
 use std::io::{Read, Write};
@@ -14,14 +15,15 @@ pub struct StdSource<R: Read + Drop> {
 impl<R: Read + Drop> StdSource<R> {
     /// A source over the reader, with no fault so far.
     pub fn new(reader: R) -> StdSource<R>
-        ensures { result.faults ≡ 0 }
+        ensures reader { result.reader ≡ reader }
+        ensures none { result.faults ≡ 0 }
     {
         StdSource { reader, faults: 0 }
     }
 }
 
 impl<R: Read + Drop> Source for StdSource<R> {
-    ghost left = { λ _. None };
+    ghost left = { λ source. R.remaining source.reader };
 
     ghost faults = { λ source. source.faults };
 
@@ -46,14 +48,15 @@ pub struct StdSink<W: Write + Drop> {
 impl<W: Write + Drop> StdSink<W> {
     /// A sink over the writer, with no fault so far.
     pub fn new(writer: W) -> StdSink<W>
-        ensures { result.faults ≡ 0 }
+        ensures writer { result.writer ≡ writer }
+        ensures none { result.faults ≡ 0 }
     {
         StdSink { writer, faults: 0 }
     }
 }
 
 impl<W: Write + Drop> Sink for StdSink<W> {
-    ghost written = { λ _. None };
+    ghost written = { λ sink. W.contents sink.writer };
 
     ghost faults = { λ sink. sink.faults };
 

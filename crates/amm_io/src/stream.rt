@@ -63,7 +63,7 @@ fn visible_end(start: usize, end: usize, taken: u128, limit: u64) -> usize
 }
 
 impl Lines {
-    /// Lines that have taken nothing yet, and take at most `limit` bytes and one.
+    /// Lines that have taken nothing yet, and take at most `limit` bytes and one. It takes 64 KiB of memory.
     pub fn new(alloc: Global, limit: u64) -> Result<Lines, Memory>
         ensures { IfOk result (λ lines. lines ≡ record { kept = []; taken = 0; limit = limit; met = None }) }
     {
@@ -149,7 +149,8 @@ impl Lines {
     }
 
     /// The next line, `None` at the end of the input. Where the source fails, or gives more bytes than the limit, that
-    /// comes after all lines that a newline ended before, and an unfinished rest is dropped.
+    /// comes after all lines that a newline ended before, and an unfinished rest is dropped. Want of memory drops all that was
+    /// read and not given out. A line of more than 65,536 bytes comes as `Long`, without its bytes.
     pub fn next<S: Source>(&mut self, alloc: Global, source: &mut S) -> Result<Option<Line>, IoEnd>
         ensures next { TakesNext (S.left source.old) (S.left source.new) self.old self.new result }
         ensures cause { HasCause (S.faults source.old) (S.faults source.new) ((self.old.met ≢ Some Stop.ReadFault) × IsErrOf result IoEnd.ReadFault) }
@@ -168,7 +169,7 @@ impl Lines {
         self.next_part(Part::over(spare), source)
     }
 
-    /// Takes back a line that was given out, for its room.
+    /// Takes back a line that was given out, so that the next one needs no new memory for what fits its room.
     pub fn give_back(&mut self, line: Line)
         ensures { self.new ≡ self.old }
     {

@@ -35,14 +35,6 @@ used_after-more used [] i below = absurd (omega arith)
 used_after-more used (leg ∷ legs) zero below = refl
 used_after-more used (leg ∷ legs) (suc i) below = used_after-more (leg.pool ∷ used) legs i (omega arith)
 
--- a place is none of a list with one more
-pub all-cons : (p x : ℕ) (xs : List ℕ) → x ≢ p → All (λ (q : ℕ). q ≢ p) xs → All (λ (q : ℕ). q ≢ p) (x ∷ xs)
-all-cons p x xs here rest zero d below = here
-all-cons p x xs here rest (suc k) d below = rest k d (omega arith)
-
-pub all-tail : (p x : ℕ) (xs : List ℕ) → All (λ (q : ℕ). q ≢ p) (x ∷ xs) → All (λ (q : ℕ). q ≢ p) xs
-all-tail p x xs all k d below = all (suc k) d (omega arith)
-
 pub leg_of : (pools : List ProblemPool) (used : List ℕ) (held : Holdings) (leg : Leg) (pool : ProblemPool) →
     pool ≡ get_or pools leg.pool no_pool → leg.pool < length pools → All (λ (q : ℕ). q ≢ leg.pool) used → IsPaid pool leg →
     leg.input ≤ held (if leg.zero_in then (token0_of pool) else (token1_of pool)) → IsLeg pools used held leg
@@ -56,11 +48,3 @@ leg_of pools used held leg pool pool-is there unused paid within = record {
   gives = paid.3;
   pays = (rw pool-is at paid).4;
 }
-
-pub paid_of : (pools : List ProblemPool) (used : List ℕ) (held : Holdings) (leg : Leg) (pool : ProblemPool) →
-    pool ≡ get_or pools leg.pool no_pool → IsLeg pools used held leg → IsPaid pool leg
-paid_of pools used held leg pool pool-is legal = rw pool-is (legal.admissible, legal.positive, legal.room, legal.gives, legal.pays)
-
-pub within_of : (pools : List ProblemPool) (used : List ℕ) (held : Holdings) (leg : Leg) (pool : ProblemPool) →
-    pool ≡ get_or pools leg.pool no_pool → IsLeg pools used held leg → leg.input ≤ held (if leg.zero_in then (token0_of pool) else (token1_of pool))
-within_of pools used held leg pool pool-is legal = rw pool-is legal.within

@@ -1,6 +1,7 @@
 -- What stands at the places of tokens, before the first leg and after one more.
 use Rattle.std.proofs.Common.{◌≡◌, ◌≢◌, ℕ, ◌+◌, ◌-◌, ◌<◌, inl, inr, Bool, true, false, cond, nat_eq, List, [], length, arith, refl, sym, ap, subst, ◌∙◌, get_or, set}
 use Rattle.std.specs.Prelude.{AllPairs}
+use Rattle.std.specs.Cmp.{both_ways}
 use Rattle.std.specs.Str.{bytes_eq}
 use Rattle.std.proofs.lemmas.Bool.{cases_lt}
 use Rattle.std.proofs.lemmas.Bool.Decides.{nat_tests}
@@ -10,29 +11,27 @@ use Rattle.std.proofs.lemmas.List.Sums.{passes_at_first}
 use Rattle.std.proofs.Math.ListN.{replicate, length-replicate, length-set, get_or-eq_default}
 use Rattle.amm_model.specs.Routing.{Name, token_place}
 
--- two tests that go with each other
-both : (b c : Bool) → (b ≡ true → c ≡ true) → (c ≡ true → b ≡ true) → b ≡ c
-both true c to back = sym (to refl)
-both false true to back = back refl
-both false false to back = refl
+-- the token at its own place
+pub token_at : (tokens : List Name) (name : Name) → token_place tokens name < length tokens → get_or tokens (token_place tokens name) [] ≡ name
+token_at tokens name there = sym ((bytes_eq-Decides name (get_or tokens (token_place tokens name) [])).0 (passes_at_first (bytes_eq name) tokens [] there))
 
 -- a token is at its place, and at no other
 pub same_at : (tokens : List Name) → AllPairs (λ (a b : Name). a ≢ b) tokens → (name : Name) → token_place tokens name < length tokens →
     (j : ℕ) → j < length tokens → bytes_eq (get_or tokens j []) name ≡ nat_eq j (token_place tokens name)
-same_at tokens once name there j below = both _ _ to back
+same_at tokens once name there j below = both_ways _ _ to back
   where
-    found : name ≡ get_or tokens (token_place tokens name) []
-    found = (bytes_eq-Decides name (get_or tokens (token_place tokens name) [])).0 (passes_at_first (bytes_eq name) tokens [] there)
+    found : get_or tokens (token_place tokens name) [] ≡ name
+    found = token_at tokens name there
 
     back : nat_eq j (token_place tokens name) ≡ true → bytes_eq (get_or tokens j []) name ≡ true
     back e =
         let same : j ≡ token_place tokens name = grind (arith, nat_tests) in
-        (bytes_eq-Decides (get_or tokens j []) name).1 (ap (λ (k : ℕ). get_or tokens k []) same ∙ sym found)
+        (bytes_eq-Decides (get_or tokens j []) name).1 (ap (λ (k : ℕ). get_or tokens k []) same ∙ found)
 
     apart : get_or tokens j [] ≡ name → j ≢ token_place tokens name → ⊥
     apart e differ = elim (cases_lt j (token_place tokens name)) [
-      | inl lt ↦ once j (token_place tokens name) [] lt there (e ∙ found)
-      | inr ge ↦ once (token_place tokens name) j [] (omega arith) below (sym found ∙ sym e)
+      | inl lt ↦ once j (token_place tokens name) [] lt there (e ∙ sym found)
+      | inr ge ↦ once (token_place tokens name) j [] (omega arith) below (found ∙ sym e)
     ]
 
     pick : (c : Bool) → nat_eq j (token_place tokens name) ≡ c → get_or tokens j [] ≡ name → c ≡ true

@@ -1,11 +1,10 @@
 -- What is kept before the first leg, and after one more.
-use Rattle.std.proofs.Common.{◌≡◌, ◌≢◌, ℕ, ◌+◌, ◌-◌, ◌*◌, ◌^◌, ◌<◌, ◌≤◌, Bool, true, false, cond, nat_eq, List, [], ◌∷◌, length, map, take, arith, zero, suc, refl, sym, ap, subst, ◌∙◌, get_or, set}
+use Rattle.std.proofs.Common.{◌≡◌, ◌≢◌, ℕ, ◌+◌, ◌-◌, ◌*◌, ◌^◌, ◌<◌, ◌≤◌, Bool, true, false, cond, nat_eq, List, [], ◌∷◌, length, map, take, arith, suc, refl, sym, ap, subst, ◌∙◌, get_or, set}
 use Rattle.std.specs.Prelude.{◌↔◌, All, AllPairs, if◌then◌else◌}
 use Rattle.std.specs.Str.{bytes_eq}
 use Rattle.std.proofs.lemmas.Bool.Decides.{nat_tests}
-use Rattle.std.proofs.lemmas.List.{get_or-map, get_or-set_same, get_or-set_other}
-use Rattle.std.proofs.lemmas.Slice.Eq.{bytes_eq-Decides}
-use Rattle.std.proofs.lemmas.List.Sums.{passes_at_first}
+use Rattle.std.proofs.lemmas.List.{get_or-map, get_or-set_same, get_or-set_other, length-take}
+use Rattle.std.proofs.lemmas.List.Elements.{All-cons, All-tail}
 use Rattle.std.proofs.Math.ListN.{length-set}
 use Rattle.amm_model.specs.declared.problem.ProblemPool.{ProblemPool}
 use Rattle.amm_model.specs.declared.problem.TokenPlaces.{TokenPlaces}
@@ -17,12 +16,8 @@ use Rattle.amm_model.proofs.Swap.{amount_out-lt}
 use Rattle.amm_model.proofs.Problems.{once_tokens, source_there, tokens_there, tokens_few}
 use Rattle.amm_model.proofs.LegLaw.{legs_few}
 use Rattle.amm_legs.specs.Progress.{Follows, IsNext}
-use Rattle.amm_legs.proofs.Legs.{after_legs-more, legs-more, used_after-more, all-cons, all-tail}
-use Rattle.amm_legs.proofs.Places.{same_at, read_set, moved}
-
--- the token at its own place
-pub token_at : (tokens : List Name) (name : Name) → token_place tokens name < length tokens → get_or tokens (token_place tokens name) [] ≡ name
-token_at tokens name there = sym ((bytes_eq-Decides name (get_or tokens (token_place tokens name) [])).0 (passes_at_first (bytes_eq name) tokens [] there))
+use Rattle.amm_legs.proofs.Legs.{after_legs-more, legs-more, used_after-more}
+use Rattle.amm_legs.proofs.Places.{token_at, same_at, read_set, moved}
 
 pub follows_start : (problem : ProblemView) → IsProblem problem → (zeros : List ℕ) (unmarked : List Bool) (source d : ℕ) → length zeros ≡ 514 → length unmarked ≡ 256 →
     ((j : ℕ) → get_or zeros j 0 ≡ 0) → ((place : ℕ) → get_or unmarked place false ≡ false) →
@@ -92,11 +87,6 @@ output-lt problem used held leg sound legal = by_side leg.zero_in legal.pays
         let below = amount_out-lt (fee_of (leg_pool problem.pools leg)) leg.input (leg_pool problem.pools leg).r1 (leg_pool problem.pools leg).r0 r.2 r.0 in
         omega (arith, r.1)
 
-length-take-more : {X : Type 0} (xs : List X) (i : ℕ) → i < length xs → length (take (suc i) xs) ≡ suc (length (take i xs))
-length-take-more [] i below = absurd (omega arith)
-length-take-more (x ∷ xs) zero below = refl
-length-take-more (x ∷ xs) (suc i) below = ap suc (length-take-more xs i (omega arith))
-
 -- the marks with one more
 marked : (used : List Bool) (p : ℕ) (before : List ℕ) → length used ≡ 256 → p < 256 →
     ((place : ℕ) → place < 256 → (get_or used place false ≡ false) ↔ All (λ (q : ℕ). q ≢ place) before) →
@@ -111,7 +101,7 @@ marked used p before long inside marks place within = pick (nat_eq p place) refl
     pick false e =
         let apart : p ≢ place = grind (arith, nat_tests) in
         let kept : get_or (set used p true) place false ≡ get_or used place false = get_or-set_other used p place true false (λ same. apart (sym same)) in
-        ((λ unmarked. all-cons place p before apart ((marks place within).0 (sym kept ∙ unmarked))), λ all. kept ∙ (marks place within).1 (all-tail place p before all))
+        ((λ unmarked. All-cons (λ (q : ℕ). q ≢ place) p before apart ((marks place within).0 (sym kept ∙ unmarked))), λ all. kept ∙ (marks place within).1 (All-tail (λ (q : ℕ). q ≢ place) p before all))
 
 -- one leg more
 pub follows_next : (problem : ProblemView) → IsProblem problem → (legs : List Leg) (i : ℕ) → i < length legs → (held : List ℕ) (used : List Bool) →
@@ -131,12 +121,15 @@ follows_next problem sound legs i inside held used follows next from to from-is 
       ∙ ap (λ (n : ℕ). (n - cond (bytes_eq (get_or problem.tokens j []) (token_in problem.pools leg)) leg.input 0) + cond (bytes_eq (get_or problem.tokens j []) (token_out problem.pools leg)) leg.output 0)
       (follows.amounts j below)
       ∙ sym (after_legs-more problem.pools (starting_with problem) legs i (get_or problem.tokens j []) inside);
-  below = λ j. rw (moved held from to leg.input leg.output j from-in to-in, length-take-more legs i inside) (small (nat_eq j from) (nat_eq j to) j (follows.below j));
+  below = λ j. rw (moved held from to leg.input leg.output j from-in to-in, one_more) (small (nat_eq j from) (nat_eq j to) j (follows.below j));
   marks = λ place within. rw (used_after-more [] legs i inside) (marked used leg.pool (used_after [] (take i legs)) follows.wide (omega (arith, next.there, sound.parts.few)) follows.marks place within);
 }
   where
     leg : Leg
     leg = get_or legs i no_leg
+
+    one_more : length (take (suc i) legs) ≡ suc (length (take i legs))
+    one_more = omega (arith, length-take (suc i) legs, length-take i legs)
 
     once : AllPairs (λ (a b : Name). a ≢ b) problem.tokens
     once = once_tokens problem sound

@@ -13,8 +13,8 @@ ghost use Rattle.amm_model.specs.Legs.{AreLegs, Delivers, starting_with};
 use amm_model::{Leg, Problem};
 use progress::Progress;
 
-/// What the legs deliver of the problem's target; None exactly where they are no leg-by-leg route
-/// of the problem.
+/// How many units of the problem's target the legs deliver; None exactly where they are no
+/// leg-by-leg route of the problem. Any list may be given.
 pub fn legs_delivered(problem: &Problem, legs: &[Leg]) -> Option<u64>
     ensures { MatchOption result (¬ AreLegs problem.now.pools [] (starting_with problem.now) legs.now) (λ amount. Delivers problem.now legs.now amount) }
 {

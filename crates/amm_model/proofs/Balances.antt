@@ -1,5 +1,6 @@
 -- What the balances and totals are after one balance is set.
 use Rattle.std.proofs.Common.{◌≡◌, ◌≢◌, ◌≤◌, ◌+◌, ◌-◌, ℕ, Bool, true, false, cond, ◌⊎◌, inl, inr, refl, sym, ap, ◌∙◌, arith}
+use Rattle.std.proofs.lemmas.Bool.{cond-false}
 use Rattle.amm_names.specs.declared.holder.Holder.{Holder}
 use Rattle.amm_names.specs.declared.holder.Asset.{Asset}
 use Rattle.amm_names.specs.Order.{same_holder, same_asset}
@@ -39,20 +40,12 @@ pub record Changed (asset : Asset) (holder : Holder) (n : ℕ) (old new : Ledger
   pub whole : total new asset + balance old asset holder ≡ total old asset + n
   pub totals : (q : Asset) → q ≢ asset → total new q ≡ total old q
 
-at_other_asset : (a b : Bool) (x y z : ℕ) → a ≡ false → cond a (cond b x y) z ≡ z
-at_other_asset false b x y z e = refl
-at_other_asset true b x y z e = cc
-
-at_other_holder : (b : Bool) (x y : ℕ) → b ≡ false → cond b x y ≡ y
-at_other_holder false x y e = refl
-at_other_holder true x y e = cc
-
 pub set_balance_changed : (l : Ledger) (a : Asset) (h : Holder) (n : ℕ) → Changed a h n l (set_balance l a h n)
 set_balance_changed l a h n = record {
   rest = record { tokens = refl; pairs = refl; fee_to = refl; setter = refl; time = refl; quotes = refl; observations = refl };
   here = balance-set_here l a h n;
   elsewhere = λ q p. elim (asset_cases q a) [
-    | inr other ↦ inr (balance-set_balance l a h n q p ∙ at_other_asset (same_asset q a) (same_holder p h) n (balance l a p) (balance l q p) (assets_apart q a other))
+    | inr other ↦ inr (balance-set_balance l a h n q p ∙ cond-false (same_asset q a) (cond (same_holder p h) n (balance l a p)) (balance l q p) (assets_apart q a other))
     | inl same ↦ elim (holder_cases p h) [
       | inl here ↦ inl (same, here)
       | inr other ↦ inr (ap (λ (k : Asset). balance (set_balance l a h n) k p) same ∙ at_holder p other ∙ sym (ap (λ (k : Asset). balance l k p) same))
@@ -65,7 +58,7 @@ set_balance_changed l a h n = record {
   at_holder p other = balance-set_balance l a h n a p ∙ both (same_asset a a) (same_holder p h) n (balance l a p) (holders_apart p h other)
     where
       both : (s b : Bool) (x y : ℕ) → b ≡ false → cond s (cond b x y) y ≡ y
-      both true b x y e = at_other_holder b x y e
+      both true b x y e = cond-false b x y e
       both false b x y e = refl
 
 -- the holder has n more of the asset
@@ -107,6 +100,10 @@ pub record Taken (asset : Asset) (holder : Holder) (n : ℕ) (old new : Ledger) 
   pub others : (q : Asset) (p : Holder) → q ≢ asset → balance new q p ≡ balance old q p
   pub whole : total new asset + n ≡ total old asset
   pub totals : (q : Asset) → q ≢ asset → total new q ≡ total old q
+
+-- what another holder has does not fall
+pub taken_kept : (a : Asset) (h : Holder) (n : ℕ) (old new : Ledger) → Taken a h n old new → (q : Asset) (p : Holder) → p ≢ h → balance old q p ≤ balance new q p
+taken_kept a h n old new taken q p other = elim (taken.elsewhere q p) [ inl both ↦ absurd (other both.1) | inr e ↦ omega arith ]
 
 pub changed_taken : (a : Asset) (h : Holder) (n : ℕ) (old new : Ledger) → n ≤ balance old a h → Changed a h (balance old a h - n) old new → Taken a h n old new
 changed_taken a h n old new funds c = record {

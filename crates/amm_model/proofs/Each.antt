@@ -1,6 +1,5 @@
 -- What `each` gives of a list that grows at its end.
 use Rattle.std.proofs.Common.{◌≡◌, ℕ, suc, ◌+◌, ◌<◌, List, [], ◌∷◌, ◌++◌, length, take, drop, get_or, map, Result, Ok, Err, refl, sym, ap, ◌∙◌, add-one, drop-cons}
-use Rattle.std.specs.List.{AllByRecursion}
 use Rattle.std.proofs.Math.Seq.{take-suc}
 use Rattle.std.proofs.lemmas.List.{map-append, take-append-drop}
 use Rattle.amm_model.specs.declared.fault.Refusal.{Refusal}
@@ -62,9 +61,3 @@ pub each-fails :
     i < length xs → x ≡ get_or xs i x → each f (map v (take i xs)) ≡ Ok ys → Fails e (f (v x)) → Fails e (each f (map v xs))
 each-fails f v xs i x ys faults.Memory lt is before h = tt
 each-fails f v xs i x ys (faults.Refused r) lt is before h = each-stops f v xs i x ys r lt is before h
-
--- what a function undoes, item by item
-pub each-map : {A D : Type 0} (f : D → Result A Refusal) (g : A → D) → (xs : List A) → AllByRecursion (λ x. f (g x) ≡ Ok x) xs → each f (map g xs) ≡ Ok xs
-unfolding each
-each-map f g [] h = refl
-each-map f g (x ∷ xs) h = rw (h.0, each-map f g xs h.1) refl

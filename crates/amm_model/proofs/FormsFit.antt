@@ -1,5 +1,5 @@
 -- The forms of values give names that are names, and numbers within their limits.
-use Rattle.std.proofs.Common.{◌≡◌, ◌≤◌, ◌∷◌, ℕ, suc, nat_le, Bool, true, false, ◌&&◌, List, [], length, map, Ok, refl, ap, subst, arith}
+use Rattle.std.proofs.Common.{◌≡◌, ◌≤◌, ◌∷◌, ℕ, suc, nat_le, Bool, true, false, ◌&&◌, List, [], length, map, Result, Ok, refl, ap, subst, arith}
 use Rattle.std.specs.Prelude.{IsTrue}
 use Rattle.std.specs.List.{All}
 use Rattle.std.proofs.lemmas.List.Elements.{All-nil, All-cons}
@@ -7,6 +7,7 @@ use Rattle.std.proofs.lemmas.Bool.Decides.{nat_tests}
 use Rattle.serde_json.specs.Data.{Data, null, boolean, number, string, array, object}
 use Rattle.amm_names.specs.Names.{is_user_name, is_token_name}
 use Rattle.amm_names.specs.Pools.{is_pool_name, is_fee}
+use Rattle.amm_model.specs.declared.fault.Refusal.{Refusal}
 use Rattle.amm_model.specs.declared.path.RoutePath.{RoutePath}
 use Rattle.amm_model.specs.Outcome.{◌>>=◌}
 use Rattle.amm_model.specs.Swap.{IsFee}
@@ -19,43 +20,35 @@ pub passed : {A : Type 0} (test : Bool) (x made : A) → fitting test x ≡ Ok m
 passed true x made is = (refl, same_answer x made is)
 passed false x made is = cc
 
+-- so did what a form gave, and then was tested
+passed_of : {A : Type 0} (first : Result A Refusal) (test : A → Bool) (made : A) → (first >>= λ x. fitting (test x) x) ≡ Ok made → IsTrue (test made)
+passed_of first test made is =
+    let one = given first _ made is in
+    let both = passed (test one.value) one.value made one.after in
+    subst (λ x. IsTrue (test x)) both.1 both.0
+
 pub user_named : (d : Data) (name : List ℕ) → as_user d ≡ Ok name → IsTrue (is_user_name name)
 unfolding as_user
-user_named d name is =
-    let text = given (as_text d) _ name is in
-    let both = passed (is_user_name text.value) text.value name text.after in
-    subst (λ n. IsTrue (is_user_name n)) both.1 both.0
+user_named d name is = passed_of (as_text d) is_user_name name is
 
 pub token_named : (d : Data) (name : List ℕ) → as_token d ≡ Ok name → IsTrue (is_token_name name)
 unfolding as_token
-token_named d name is =
-    let text = given (as_text d) _ name is in
-    let both = passed (is_token_name text.value) text.value name text.after in
-    subst (λ n. IsTrue (is_token_name n)) both.1 both.0
+token_named d name is = passed_of (as_text d) is_token_name name is
 
 pub pool_named : (d : Data) (name : List ℕ) → as_pool d ≡ Ok name → IsTrue (is_pool_name name)
 unfolding as_pool
-pool_named d name is =
-    let text = given (as_text d) _ name is in
-    let both = passed (is_pool_name text.value) text.value name text.after in
-    subst (λ n. IsTrue (is_pool_name n)) both.1 both.0
+pool_named d name is = passed_of (as_text d) is_pool_name name is
 
 small : (n : ℕ) → IsTrue (nat_le n amount_max) → IsAmount n
 small n is = grind (arith, nat_tests)
 
 pub amount_small : (d : Data) (n : ℕ) → as_amount d ≡ Ok n → IsAmount n
 unfolding as_amount
-amount_small d n is =
-    let whole = given (as_whole d) _ n is in
-    let both = passed (nat_le whole.value amount_max) whole.value n whole.after in
-    subst IsAmount both.1 (small whole.value both.0)
+amount_small d n is = small n (passed_of (as_whole d) (λ x. nat_le x amount_max) n is)
 
 fee_fits : (d : Data) (fee : ℕ) → as_fee d ≡ Ok fee → IsFee fee
 unfolding as_fee
-fee_fits d fee is =
-    let whole = given (as_whole d) _ fee is in
-    let both = passed (is_fee whole.value) whole.value fee whole.after in
-    subst IsFee both.1 both.0
+fee_fits d fee is = passed_of (as_whole d) is_fee fee is
 
 pub fee_behind_fits : (rest : List Data) (fee : ℕ) → fee_behind rest ≡ Ok fee → IsFee fee
 fee_behind_fits [] fee is = subst IsFee (same_answer 3 fee is) refl

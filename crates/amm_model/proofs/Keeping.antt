@@ -1,5 +1,6 @@
 -- What every accepted step keeps: the locks, what the zero holder has, and the totals of tokens.
-use Rattle.std.proofs.Common.{◌≡◌, ℕ, Bool, true, false, List, Option, Some, IsSome, Ok, ◌⊎◌, inl, inr, refl, sym, ap, ◌∙◌, subst, arith}
+use Rattle.std.proofs.Common.{◌≡◌, ℕ, true, false, List, Option, Some, IsSome, Ok, inl, inr, refl, sym, ap, ◌∙◌, subst, arith}
+use Rattle.std.proofs.lemmas.Bool.{cases_Bool}
 use Rattle.amm_names.specs.declared.holder.Holder.{Holder}
 use Rattle.amm_names.specs.declared.holder.Holder.TheVariants as holders
 use Rattle.amm_names.specs.declared.holder.Asset.{Asset}
@@ -30,37 +31,14 @@ pub record SameSettings (old new : Ledger) : Type 0 where
   pub quotes : new.quotes ≡ old.quotes
   pub observations : new.observations ≡ old.observations
 
-pub keeps_then : (a b c : Ledger) → Keeps a b → Keeps b c → Keeps a c
-keeps_then a b c first second = record {
-  stays = λ pool is. second.stays pool (first.stays pool is);
-  locked = λ pool pair is shut. second.locked pool pair (first.locked pool pair is shut) shut;
-  no_other = λ pool pair is shut. first.no_other pool pair (second.no_other pool pair is shut) shut;
-  zero = λ q. omega (arith, first.zero q, second.zero q);
-  totals = λ token. second.totals token ∙ first.totals token;
-}
-
-pub same_settings_then : (a b c : Ledger) → SameSettings a b → SameSettings b c → SameSettings a c
-same_settings_then a b c first second = record {
-  tokens = second.tokens ∙ first.tokens;
-  fee_to = second.fee_to ∙ first.fee_to;
-  setter = second.setter ∙ first.setter;
-  time = second.time ∙ first.time;
-  quotes = second.quotes ∙ first.quotes;
-  observations = second.observations ∙ first.observations;
-}
-
 pub same_settings : (a : Ledger) → SameSettings a a
 same_settings a = record { tokens = refl; fee_to = refl; setter = refl; time = refl; quotes = refl; observations = refl }
 
 pub only_same_settings : (pool : List ℕ) (old new : Ledger) → OnlyAt pool old new → SameSettings old new
 only_same_settings pool old new only = record { tokens = only.tokens; fee_to = only.fee_to; setter = only.setter; time = only.time; quotes = only.quotes; observations = only.observations }
 
-either : (b : Bool) → (b ≡ true) ⊎ (b ≡ false)
-either true = inl refl
-either false = inr refl
-
-both_ways : (x y : PairRecord) → x.locked ≡ false → x ≡ y → y.locked ≡ true → ⊥
-both_ways x y free same shut = let e : y.locked ≡ false = ap (λ (p : PairRecord). p.locked) (sym same) ∙ free in cc
+pub free_not_locked : (x y : PairRecord) → x.locked ≡ false → x ≡ y → y.locked ≡ true → ⊥
+free_not_locked x y free same shut = let e : y.locked ≡ false = ap (λ (p : PairRecord). p.locked) (sym same) ∙ free in cc
 
 -- where every pair is as it was
 pub keeps_same_pairs : (old new : Ledger) → new.pairs ≡ old.pairs → ZeroKept old new → TokenTotalsKept old new → Keeps old new
@@ -83,23 +61,24 @@ keeps_at pool old new was now only there free written freed = record {
     | inr apart ↦ subst (λ (o : Option PairRecord). IsSome o) (sym (only.pairs other apart)) is
   ];
   locked = λ other pair is shut. elim (name_cases other pool) [
-    | inl e ↦ absurd (both_ways was pair free (one_value (pair_of old.pairs pool) was pair there (ap (pair_of old.pairs) (sym e) ∙ is)) shut)
+    | inl e ↦ absurd (free_not_locked was pair free (one_value (pair_of old.pairs pool) was pair there (ap (pair_of old.pairs) (sym e) ∙ is)) shut)
     | inr apart ↦ only.pairs other apart ∙ is
   ];
   no_other = λ other pair is shut. elim (name_cases other pool) [
-    | inl e ↦ absurd (both_ways now pair freed (one_value (pair_of new.pairs pool) now pair written (ap (pair_of new.pairs) (sym e) ∙ is)) shut)
+    | inl e ↦ absurd (free_not_locked now pair freed (one_value (pair_of new.pairs pool) now pair written (ap (pair_of new.pairs) (sym e) ∙ is)) shut)
     | inr apart ↦ sym (only.pairs other apart) ∙ is
   ];
   zero = only.zero;
   totals = λ token. only.totals (assets.Token token) (share_not_token pool token);
 }
 
--- a ledger at rest stays at rest
-pub rest_kept : (old new : Ledger) → IsAtRest old → Keeps old new → IsSound new → IsAtRest new
-rest_kept old new rest keeps sound = record {
+-- a ledger at rest stays at rest, where no pair became locked
+pub rest_kept : (old new : Ledger) → IsAtRest old → ((pool : List ℕ) (pair : PairRecord) → pair_of new.pairs pool ≡ Some pair → pair.locked ≡ true → pair_of old.pairs pool ≡ Some pair) → IsSound new
+    → IsAtRest new
+rest_kept old new rest no_other sound = record {
   sound = sound;
-  unlocked = λ pool pair is. elim (either pair.locked) [
-    | inl shut ↦ rest.unlocked pool pair (keeps.no_other pool pair is shut)
+  unlocked = λ pool pair is. elim (cases_Bool pair.locked) [
+    | inl shut ↦ rest.unlocked pool pair (no_other pool pair is shut)
     | inr free ↦ free
   ];
 }

@@ -1,13 +1,14 @@
 -- What a change of one balance does to the balances and to the totals.
-use Rattle.std.proofs.Common.{◌≡◌, ℕ, ◌+◌, ◌-◌, ◌≤◌, ◌==◌, nat_lt, Bool, true, false, cond, None, Some, refl, sym, ap, ◌∙◌, arith, List, [], ◌∷◌, length}
+use Rattle.std.proofs.Common.{◌≡◌, ℕ, ◌+◌, ◌≤◌, ◌==◌, nat_lt, Bool, true, false, cond, None, Some, refl, sym, ap, ◌∙◌, arith, []}
 use Rattle.std.proofs.lemmas.Bool.{eqb-true, le-ltb}
+use Rattle.std.proofs.lemmas.List.{nil_from_length}
 use Rattle.std.specs.Option.{unwrap_or}
 use Rattle.std.specs.Cmp.{eq_by_cmp_equiv, Equal-is}
 use Rattle.std.specs.FinMap as fin
 use Rattle.amm_names.specs.declared.holder.Holder.{Holder}
 use Rattle.amm_names.specs.declared.holder.Asset.{Asset}
 use Rattle.amm_names.specs.Order.{holder_cmp, asset_cmp, same_holder, same_asset}
-use Rattle.amm_model.specs.Ledger.{Holdings, HoldingsByAsset, Ledger, amount, set_amount, sum_held, holdings_of, set_holdings, balance, total, set_balance, total_limit, done, taken, transfer, issue, retire}
+use Rattle.amm_model.specs.Ledger.{Holdings, HoldingsByAsset, Ledger, amount, set_amount, sum_held, holdings_of, set_holdings, balance, total, set_balance, done, transfer}
 use Rattle.amm_names.proofs.OrderLemmas.{holder_total, holder_antisymmetric, asset_total, asset_antisymmetric}
 use Rattle.amm_model.proofs.FinSum.{in_all, sum-insert, sum-remove, value_at_most_sum}
 
@@ -44,15 +45,11 @@ pub amount-empty : (q : Holder) → amount fin.empty q ≡ 0
 unfolding amount
 amount-empty q = rw (fin.get-empty holder_cmp q)
 
-nothing_in : {X : Type 0} (es : List X) → length es ≡ 0 → es ≡ []
-nothing_in [] e = refl
-nothing_in (x ∷ es) e = absurd (omega arith)
-
 pub sum_held-empty : sum_held fin.empty ≡ 0
 unfolding sum_held
 sum_held-empty =
     let m : Holdings = fin.empty in
-    let none : fin.entries m ≡ [] = nothing_in (fin.entries m) (sym (fin.len-entries m) ∙ fin.len-empty holder_cmp ℕ) in
+    let none : fin.entries m ≡ [] = nil_from_length (fin.entries m) (sym (fin.len-entries m) ∙ fin.len-empty holder_cmp ℕ) in
     rw none
 
 -- no row says 0
@@ -111,18 +108,6 @@ total-set_balance l a h n = rw (holdings_of-set_here l.holdings a (set_amount (h
 pub balance_within_total : (l : Ledger) (a : Asset) (h : Holder) → balance l a h ≤ total l a
 balance_within_total l a h = amount_within_sum (holdings_of l.holdings a) h
 
--- a transfer to another is to retire and then to issue
-pub transfer_in_steps : (l : Ledger) (a : Asset) (f t : Holder) (n : ℕ) → n ≤ balance l a f → same_holder f t ≡ false → total l a ≤ total_limit
-    → transfer l a f t n ≡ issue (taken l a f n) a t n
-unfolding transfer issue
-transfer_in_steps l a f t n funds apart limit =
-    let less : Ledger = taken l a f n in
-    let sums = total-set_balance l a f (balance l a f - n) in
-    let whole = balance_within_total l a f in
-    let enough : nat_lt (balance l a f) n ≡ false = le-ltb (balance l a f) n funds in
-    let room : nat_lt total_limit (total less a + n) ≡ false = le-ltb total_limit (total less a + n) (omega arith) in
-    rw (enough, apart, room)
-
 -- nobody has anything, so no asset has a total
 pub total-nothing : (a : Asset) → sum_held (holdings_of fin.empty a) ≡ 0
 total-nothing a = rw (holdings_of-empty a) sum_held-empty
@@ -133,12 +118,6 @@ unfolding transfer
 transfer_to_oneself l a f t n funds same =
     let enough : nat_lt (balance l a f) n ≡ false = le-ltb (balance l a f) n funds in
     rw (enough, same)
-
-pub retire_with_funds : (l : Ledger) (a : Asset) (f : Holder) (n : ℕ) → n ≤ balance l a f → retire l a f n ≡ done (taken l a f n)
-unfolding retire
-retire_with_funds l a f n funds =
-    let enough : nat_lt (balance l a f) n ≡ false = le-ltb (balance l a f) n funds in
-    rw enough
 
 pub same_holder_itself : (h : Holder) → same_holder h h ≡ true
 same_holder_itself h = (eq_by_cmp_equiv holder_total).refl h

@@ -1,24 +1,24 @@
 -- A leg-by-leg route is, leg for trade, a route that delivers the same.
-use Rattle.std.proofs.Common.{◌≡◌, ◌≢◌, ℕ, ◌+◌, ◌-◌, ◌*◌, ◌<◌, ◌≤◌, Bool, true, false, cond, nat_eq, List, [], ◌∷◌, length, map, arith, zero, suc, subst, ap, sym, refl, get_or, ◌∙◌, ◌^◌}
-use Rattle.std.specs.Prelude.{AllPairs, All, Contains, sum_by}
-use Rattle.std.proofs.Math.ListN.{replicate, length-map, length-replicate}
-use Rattle.std.proofs.lemmas.List.{get_or-map, get_or-replicate}
+use Rattle.std.proofs.Common.{◌≡◌, ◌≢◌, ℕ, ◌+◌, ◌-◌, ◌*◌, ◌<◌, ◌≤◌, Bool, true, false, cond, nat_eq, List, [], ◌∷◌, length, map, arith, suc, subst, sym, refl, get_or, ◌∙◌}
+use Rattle.std.specs.Prelude.{AllPairs, All, Contains}
+use Rattle.std.proofs.Math.ListN.{length-map}
+use Rattle.std.proofs.lemmas.List.{get_or-map}
 use Rattle.std.proofs.lemmas.Bool.Decides.{nat_tests}
 use Rattle.std.proofs.lemmas.Map.Keys.{IsDistinct-from_apart}
 use Rattle.std.proofs.lemmas.Bool.{eqb-true}
 use Rattle.std.proofs.lemmas.Map.Views.{Contains-from_any}
 use Rattle.std.proofs.lemmas.Map.Steps.{length-le_from_distinct_below}
-use Rattle.std.proofs.lemmas.List.Folds.{sum_by-replicate}
-use Rattle.amm_model.proofs.Sums.{once_places, sum_by-le_each, sum_of_places-le}
+use Rattle.std.proofs.lemmas.List.Kept.{AllPairs-cons}
+use Rattle.amm_model.proofs.Sums.{at-same, at-other}
 use Rattle.std.specs.List.{AllByRecursion}
 use Rattle.std.specs.Str.{bytes_eq}
 use Rattle.std.proofs.lemmas.Slice.Eq.{bytes_eq-Decides}
-use Rattle.std.proofs.lemmas.List.Elements.{All-from_recursion, recursion_from_All}
+use Rattle.std.proofs.lemmas.List.Elements.{All-from_recursion}
 use Rattle.std.proofs.lemmas.List.Sums.{sum_by-cons}
 use Rattle.amm_model.specs.declared.problem.ProblemPool.{ProblemPool}
 use Rattle.amm_model.specs.declared.route.Leg.{Leg}
 use Rattle.amm_model.specs.Swap.{amount_out_of}
-use Rattle.amm_model.specs.Routing.{Name, ProblemView, Trade, IsProblem, HasReserves, IsTrade, IsRoute, pool_of, fee_of, token0_of, token1_of, put_in, taken_out, delivered_by, amount_in_token, no_pool}
+use Rattle.amm_model.specs.Routing.{Name, ProblemView, Trade, IsProblem, HasReserves, IsTrade, IsRoute, pool_of, fee_of, put_in, taken_out, delivered_by, amount_in_token, no_pool}
 use Rattle.amm_model.specs.Legs.{Holdings, IsLeg, AreLegs, after_leg, after_legs, starting_with, trade_of, token_in, leg_pool, reserve_in, reserve_out}
 use Rattle.std.proofs.Math.Nat.{mul-zero, sub-zero, add-zero}
 use Rattle.amm_model.proofs.Swap.{fee_range, greatest_output, amount_out-lt}
@@ -114,19 +114,13 @@ apart_from_used pools used held (leg ∷ legs) k below legal = (
   apart_from_used pools (leg.pool ∷ used) (after_leg pools held leg) legs (suc k) (omega arith) legal.1,
 )
 
-pairs_cons : {X : Type 0} (R : X → X → Type 0) (x : X) (xs : List X) → AllByRecursion (R x) xs → AllPairs R xs → AllPairs R (x ∷ xs)
-pairs_cons R x xs first rest zero zero d ij below = absurd (omega arith)
-pairs_cons R x xs first rest zero (suc j) d ij below = All-from_recursion (R x) xs first j d (omega arith)
-pairs_cons R x xs first rest (suc i) zero d ij below = absurd (omega arith)
-pairs_cons R x xs first rest (suc i) (suc j) d ij below = rest i j d (omega arith) (omega arith)
-
 legs_apart : (pools : List ProblemPool) (used : List ℕ) (held : Holdings) (legs : List Leg) → AreLegs pools used held legs →
     AllPairs (λ (a b : Trade). a.place ≢ b.place) (map trade_of legs)
 legs_apart pools used held [] legal = λ i j d ij below. absurd (omega arith)
 legs_apart pools used held (leg ∷ legs) legal =
-    pairs_cons (λ (a b : Trade). a.place ≢ b.place) (trade_of leg) (map trade_of legs)
-    (subst (λ (n : ℕ). AllByRecursion (λ (t : Trade). n ≢ t.place) (map trade_of legs)) (sym (place_of_trade leg))
-    (apart_from_used pools (leg.pool ∷ used) (after_leg pools held leg) legs 0 (omega arith) legal.1))
+    AllPairs-cons (λ (a b : Trade). a.place ≢ b.place) (trade_of leg) (map trade_of legs)
+    (All-from_recursion (λ (t : Trade). (trade_of leg).place ≢ t.place) (map trade_of legs) (subst (λ (n : ℕ). AllByRecursion (λ (t : Trade). n ≢ t.place) (map trade_of legs)) (sym (place_of_trade leg))
+    (apart_from_used pools (leg.pool ∷ used) (after_leg pools held leg) legs 0 (omega arith) legal.1)))
     (legs_apart pools (leg.pool ∷ used) (after_leg pools held leg) legs legal.1)
 
 -- so there are no more legs than pools
@@ -156,14 +150,10 @@ legs_few problem used held legs sound legal =
     differ a b apart = grind (arith, nat_tests)
 
 start_is : (problem : ProblemView) → starting_with problem problem.s ≡ problem.d
-start_is problem = ap (λ (b : Bool). cond b problem.d 0) ((bytes_eq-Decides problem.s problem.s).1 refl)
+start_is problem = at-same bytes_eq bytes_eq-Decides problem.s problem.d
 
 start_of_other : (problem : ProblemView) (y : Name) → y ≢ problem.s → starting_with problem y ≡ 0
-start_of_other problem y apart = pick (bytes_eq y problem.s) (bytes_eq-Decides y problem.s).0
-  where
-    pick : (b : Bool) → (b ≡ true → y ≡ problem.s) → cond b problem.d 0 ≡ 0
-    pick true says = absurd (apart (says refl))
-    pick false says = refl
+start_of_other problem y apart = at-other bytes_eq bytes_eq-Decides problem.s problem.d y apart
 
 -- a leg-by-leg route is a route, leg for trade
 pub legs_are_route : (problem : ProblemView) (legs : List Leg) → IsProblem problem → AreLegs problem.pools [] (starting_with problem) legs → IsRoute problem (map trade_of legs)
@@ -183,41 +173,3 @@ legs_deliver problem legs sound legal =
     let b = legs_balance problem.pools [] (starting_with problem) legs legal problem.t in
     let e = start_of_other problem problem.t (λ h. sound.parts.apart (sym h)) in
     omega arith
-
-cond-le : (b : Bool) (x : ℕ) → cond b x 0 ≤ x
-cond-le true x = omega arith
-cond-le false x = omega arith
-
--- what a trade takes out is below two reserves, here a number that stands at each pool's place
-outs-le : (pools : List ProblemPool) (y : Name) (route : List Trade) →
-    All HasReserves pools →
-    AllByRecursion (IsTrade pools) route →
-    AllByRecursion (λ (t : Trade). amount_in_token y (pool_of pools t) t.out0 t.out1 ≤ get_or (replicate (length pools) (2 ^ 49)) t.place 0) route
-outs-le pools y [] reserves trades = tt
-outs-le pools y (t ∷ route) reserves trades =
-    let trade = trades.0 in
-    let r = reserves t.place no_pool trade.there in
-    let there : t.place < length pools = trade.there in
-    let e : get_or (replicate (length pools) (2 ^ 49)) t.place 0 ≡ 2 ^ 49 = get_or-replicate (length pools) t.place (2 ^ 49) 0 there in
-    let c0 = cond-le (bytes_eq y (token0_of (pool_of pools t))) t.out0 in
-    let c1 = cond-le (bytes_eq y (token1_of (pool_of pools t))) t.out1 in
-    (omega (arith, trade.within0, trade.within1, r.1, r.3), outs-le pools y route reserves trades.1)
-
-places_in : (pools : List ProblemPool) (route : List Trade) → AllByRecursion (IsTrade pools) route →
-    AllByRecursion (λ (t : Trade). t.place < length (replicate (length pools) (2 ^ 49))) route
-places_in pools [] trades = tt
-places_in pools (t ∷ route) trades = (omega (arith, trades.0.there, length-replicate (length pools) (2 ^ 49)), places_in pools route trades.1)
-
--- legs deliver what fits 64 bits
-pub delivered-lt : (problem : ProblemView) (legs : List Leg) → IsProblem problem → AreLegs problem.pools [] (starting_with problem) legs →
-    after_legs problem.pools (starting_with problem) legs problem.t < 2 ^ 64
-delivered-lt problem legs sound legal =
-    let route = map trade_of legs in
-    let is_route = legs_are_route problem legs sound legal in
-    let trades = recursion_from_All (IsTrade problem.pools) route is_route.trades in
-    let each = sum_by-le_each (λ (t : Trade). amount_in_token problem.t (pool_of problem.pools t) t.out0 t.out1)
-    (λ (t : Trade). get_or (replicate (length problem.pools) (2 ^ 49)) t.place 0) route (outs-le problem.pools problem.t route sound.parts.reserves trades) in
-    let most = sum_of_places-le (λ (t : Trade). t.place) (replicate (length problem.pools) (2 ^ 49)) route (once_places (λ (t : Trade). t.place) route is_route.once) (places_in problem.pools route trades) in
-    let whole : sum_by (λ (w : ℕ). w) (replicate (length problem.pools) (2 ^ 49)) ≡ length problem.pools * 2 ^ 49 = sum_by-replicate (λ (w : ℕ). w) (length problem.pools) (2 ^ 49) in
-    let e = legs_deliver problem legs sound legal in
-    omega (arith, sound.parts.few)

@@ -1,5 +1,6 @@
 -- Names, holders and assets are the same or apart.
 use Rattle.std.proofs.Common.{◌≡◌, ◌≢◌, Bool, true, false, ℕ, List, Option, Some, None, cond, IsSome, refl, sym, ap, ◌∙◌, ◌⊎◌, inl, inr, rules}
+use Rattle.std.proofs.lemmas.Bool.{cases_Bool}
 use Rattle.std.specs.Cmp.{Equal-is}
 use Rattle.std.specs.Cmp.Lexicographic.{nat_list_eq_equiv}
 use Rattle.std.proofs.lemmas.Slice.Eq.{slice_eq-Decides}
@@ -39,21 +40,17 @@ same_name_itself x = nat_list_eq_equiv.refl x
 pub names_apart : (x y : List ℕ) → x ≢ y → same_name x y ≡ false
 names_apart x y apart = told_apart x y (same_name x y) (same_name_is x y) apart
 
-either : (b : Bool) → (b ≡ true) ⊎ (b ≡ false)
-either true = inl refl
-either false = inr refl
-
 false_apart : {X : Type 0} (test : X → X → Bool) (x y : X) → test x x ≡ true → test x y ≡ false → x ≢ y
 false_apart test x y self e is = let both : test x x ≡ false = ap (test x) is ∙ e in cc
 
 pub name_cases : (x y : List ℕ) → (x ≡ y) ⊎ (x ≢ y)
-name_cases x y = elim (either (same_name x y)) [ inl e ↦ inl (same_name_is x y e) | inr e ↦ inr (false_apart same_name x y (same_name_itself x) e) ]
+name_cases x y = elim (cases_Bool (same_name x y)) [ inl e ↦ inl (same_name_is x y e) | inr e ↦ inr (false_apart same_name x y (same_name_itself x) e) ]
 
 pub asset_cases : (x y : Asset) → (x ≡ y) ⊎ (x ≢ y)
-asset_cases x y = elim (either (same_asset x y)) [ inl e ↦ inl (same_asset_is x y e) | inr e ↦ inr (false_apart same_asset x y (same_asset_itself x) e) ]
+asset_cases x y = elim (cases_Bool (same_asset x y)) [ inl e ↦ inl (same_asset_is x y e) | inr e ↦ inr (false_apart same_asset x y (same_asset_itself x) e) ]
 
 pub holder_cases : (x y : Holder) → (x ≡ y) ⊎ (x ≢ y)
-holder_cases x y = elim (either (same_holder x y)) [ inl e ↦ inl (same_holder_is x y e) | inr e ↦ inr (false_apart same_holder x y (same_holder_itself x) e) ]
+holder_cases x y = elim (cases_Bool (same_holder x y)) [ inl e ↦ inl (same_holder_is x y e) | inr e ↦ inr (false_apart same_holder x y (same_holder_itself x) e) ]
 
 -- the record of any pool after one is written
 pub pair_of-set_pair : (pairs : Pairs) (pool : List ℕ) (new : PairRecord) (q : List ℕ) → IsSome (pair_of pairs pool)

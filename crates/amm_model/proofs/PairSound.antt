@@ -1,10 +1,10 @@
--- A new pair with nothing in it keeps a ledger sound and at rest.
+-- A new pair with nothing in it keeps a ledger sound.
 use Rattle.std.proofs.Common.{◌≡◌, ◌<◌, ◌++◌, ◌∷◌, [], ℕ, ◌==◌, nat_le, Bool, true, false, cond, ◌||◌, List, length, Option, Some, None, Ok, IsSome, ◌⊎◌, inl, inr, refl, sym, ap, ◌∙◌, subst, arith, length-append}
 use Rattle.std.specs.Map.{keys_of, values_of}
 use Rattle.std.specs.List.{IsDistinct, list_any}
 use Rattle.std.specs.Cmp.Lexicographic.{nat_list_eq_equiv}
 use Rattle.std.proofs.lemmas.Map.Keys.{IsDistinct-push}
-use Rattle.std.proofs.lemmas.Bool.{eqb-true}
+use Rattle.std.proofs.lemmas.Bool.{eqb-true, false≢true}
 use Rattle.std.proofs.lemmas.Bool.Decides.{nat_tests}
 use Rattle.amm_names.specs.declared.holder.Asset.{Asset}
 use Rattle.amm_names.specs.declared.holder.Asset.TheVariants as assets
@@ -14,8 +14,7 @@ use Rattle.amm_model.specs.declared.fault.Refusal.TheVariants as code
 use Rattle.amm_model.specs.Ledger.{Ledger, Pairs, Made, done, pair_limit, is_listed, pair_of, zero_pair, add_pair}
 use Rattle.amm_model.specs.Pools.{supply, same_name}
 use Rattle.amm_model.specs.Formulas.{IsBacked}
-use Rattle.amm_model.specs.Sound.{IsSoundPair, IsKnown, IsSound, IsAtRest}
-use Rattle.amm_model.specs.Laws.{ZeroKept, TokenTotalsKept}
+use Rattle.amm_model.specs.Sound.{IsSoundPair, IsKnown, IsSound}
 use Rattle.amm_model.proofs.Guards.{past_refusal, same_answer}
 use Rattle.amm_model.proofs.Names.{same_name_is, some_there}
 
@@ -49,21 +48,25 @@ not_among (e ∷ pairs) pool is =
       | false ↦ λ there. not_among pairs pool there
     ] is
 
-nothing : IsSome {T = PairRecord} None → ⊥
-nothing there = cc
-
 -- a pool that is not there has no shares
 no_shares : (l : Ledger) (pool : List ℕ) → IsSound l → pair_of l.pairs pool ≡ None → supply l pool ≡ 0
 no_shares l pool sound absent = elim (supply l pool == 0) as (λ b. (supply l pool == 0) ≡ b → supply l pool ≡ 0) [
   | true ↦ λ e. eqb-true (supply l pool) 0 e
-  | false ↦ λ e. absurd (nothing (subst (λ (o : Option PairRecord). IsSome o) absent (sound.known (assets.Share pool) (λ none. let both : (0 == 0) ≡ false = subst (λ (s : ℕ). (s == 0) ≡ false) none e in cc))))
+  | false ↦ λ e. absurd (false≢true (subst (λ (o : Option PairRecord). IsSome o) absent (sound.known (assets.Share pool) (λ none. let both : (0 == 0) ≡ false = subst (λ (s : ℕ). (s == 0) ≡ false) none e in cc))))
 ] refl
 
 abbrev pub one_more_pair : Ledger → List ℕ → Ledger
 one_more_pair l pool = record l { pairs = l.pairs ++ (pool, zero_pair) ∷ [] }
 
+-- each pair stays
+pub pair_stays : (l : Ledger) (pool q : List ℕ) → IsSome (pair_of l.pairs q) → IsSome (pair_of (one_more_pair l pool).pairs q)
+pair_stays l pool q is = elim (pair_of l.pairs q) as (λ o. pair_of l.pairs q ≡ o → IsSome o → IsSome (pair_of (one_more_pair l pool).pairs q)) [
+  | Some x ↦ λ was there. some_there (pair_of (one_more_pair l pool).pairs q) x (found_before l.pairs pool zero_pair q x was)
+  | None ↦ λ was there. absurd (false≢true there)
+] refl is
+
 -- the pair is there as it is created, and each other as it was
-pair_cases : (l : Ledger) (pool q : List ℕ) (pair : PairRecord) → pair_of l.pairs pool ≡ None → pair_of (one_more_pair l pool).pairs q ≡ Some pair
+pub pair_cases : (l : Ledger) (pool q : List ℕ) (pair : PairRecord) → pair_of l.pairs pool ≡ None → pair_of (one_more_pair l pool).pairs q ≡ Some pair
     → (pair_of l.pairs q ≡ Some pair) ⊎ ((q ≡ pool) × (pair ≡ zero_pair))
 pair_cases l pool q pair absent is = elim (pair_of l.pairs q) as (λ o. pair_of l.pairs q ≡ o → (pair_of l.pairs q ≡ Some pair) ⊎ ((q ≡ pool) × (pair ≡ zero_pair))) [
   | Some x ↦ λ was. inl (was ∙ sym (found_before l.pairs pool zero_pair q x was) ∙ is)
@@ -96,10 +99,7 @@ module _ (old : Ledger) (pool : List ℕ) (sound : IsSound old) (absent : pair_o
 
   still_known : (q : Asset) → IsKnown old q → IsKnown (one_more_pair old pool) q
   still_known (assets.Token name) is = is
-  still_known (assets.Share other) is = elim (pair_of old.pairs other) as (λ o. pair_of old.pairs other ≡ o → IsSome o → IsSome (pair_of (one_more_pair old pool).pairs other)) [
-    | Some x ↦ λ was there. some_there (pair_of (one_more_pair old pool).pairs other) x (found_before old.pairs pool zero_pair other x was)
-    | None ↦ λ was there. absurd (nothing there)
-  ] refl is
+  still_known (assets.Share other) is = pair_stays old pool other is
 
   pub one_more_pair_sound : IsSound (one_more_pair old pool)
   one_more_pair_sound = record {
@@ -126,24 +126,9 @@ module _ (old : Ledger) (pool : List ℕ) (made : Made (Unit {0})) (is : add_pai
       let room : length old.pairs < pair_limit = grind (arith, nat_tests) in
       (room, sym (ap (λ (k : Made (Unit {0})). k.ledger) (same_answer (record { ledger = one_more_pair old pool; answer = tt }) made past.1)))
 
-  pub add_pair_zero : ZeroKept old made.ledger
-  add_pair_zero = subst (ZeroKept old) (sym add_pair_made.1) (λ q. omega arith)
-
-  pub add_pair_totals : TokenTotalsKept old made.ledger
-  add_pair_totals = subst (TokenTotalsKept old) (sym add_pair_made.1) (λ token. refl)
-
   module _ (absent : pair_of old.pairs pool ≡ None) (first : is_listed old.tokens (pool_token0 pool) ≡ true) (second : is_listed old.tokens (pool_token1 pool) ≡ true) where
     pub add_pair_sound : IsSound old → IsSound made.ledger
     add_pair_sound sound = subst IsSound (sym add_pair_made.1) (one_more_pair_sound old pool sound absent first second add_pair_made.0)
-
-    pub add_pair_rest : IsAtRest old → IsAtRest made.ledger
-    add_pair_rest rest = subst IsAtRest (sym add_pair_made.1) record {
-      sound = one_more_pair_sound old pool rest.sound absent first second add_pair_made.0;
-      unlocked = λ q pair there. elim (pair_cases old pool q pair absent there) [
-        | inl was ↦ rest.unlocked q pair was
-        | inr new ↦ ap (λ (p : PairRecord). p.locked) new.1
-      ];
-    }
 
 -- where no pair of the list is locked, none is that is found in it
 pub none_locked : (pairs : Pairs) → list_any (λ pair. pair.locked) (values_of pairs) ≡ false → (pool : List ℕ) (pair : PairRecord) → pair_of pairs pool ≡ Some pair → pair.locked ≡ false

@@ -1,9 +1,10 @@
 -- Soundness and rest are kept by the operations that leave every pair as it is.
-use Rattle.std.proofs.Common.{◌≡◌, ◌≢◌, ◌≤◌, ◌<◌, ◌+◌, ◌++◌, ◌∷◌, [], ℕ, nat_lt, nat_le, Bool, true, false, ◌||◌, List, length, Ok, Err, IsSome, inl, inr, refl, sym, ap, ◌∙◌, subst, arith, length-append}
+use Rattle.std.proofs.Common.{◌≡◌, ◌≢◌, ◌≤◌, ◌<◌, ◌+◌, ◌++◌, ◌∷◌, [], ℕ, nat_lt, nat_le, true, false, ◌||◌, List, length, Ok, Err, IsSome, inl, inr, refl, sym, ap, ◌∙◌, subst, arith, length-append}
 use Rattle.std.specs.Prelude.{if◌then◌else◌}
 use Rattle.std.specs.Map.{keys_of}
 use Rattle.std.specs.List.{IsDistinct}
 use Rattle.std.proofs.lemmas.List.Folds.{list_any-append}
+use Rattle.std.proofs.lemmas.Bool.{or_right}
 use Rattle.std.proofs.lemmas.Bool.Decides.{nat_tests}
 use Rattle.amm_names.specs.declared.holder.Holder.{Holder}
 use Rattle.amm_names.specs.declared.holder.Holder.TheVariants as holders
@@ -12,16 +13,16 @@ use Rattle.amm_names.specs.declared.holder.Asset.TheVariants as assets
 use Rattle.amm_names.specs.Pools.{pool_token0, pool_token1}
 use Rattle.amm_model.specs.declared.pair.PairRecord.{PairRecord}
 use Rattle.amm_model.specs.declared.fault.Refusal.TheVariants as code
-use Rattle.amm_model.specs.Ledger.{Ledger, HoldingsByAsset, Pairs, Made, done, holdings_of, sum_held, balance, total, total_limit, token_limit, quote_limit, observation_limit, is_listed, pair_of, list, issue, retire, transfer, added, set_time, with_fee_to, with_setter}
+use Rattle.amm_model.specs.Ledger.{Ledger, HoldingsByAsset, Pairs, Made, done, holdings_of, sum_held, balance, total, total_limit, token_limit, quote_limit, observation_limit, is_listed, pair_of, list, issue, retire, transfer, added, set_time}
 use Rattle.amm_model.specs.Pools.{same_name, asset0, asset1}
 use Rattle.amm_model.specs.Formulas.{IsBacked}
 use Rattle.amm_model.specs.Sound.{IsSoundPair, IsKnown, IsSound, IsAtRest}
 use Rattle.amm_model.specs.Laws.{ZeroKept, TokenTotalsKept, Deposited, Withdrawn}
 use Rattle.amm_model.proofs.Guards.{past_refusal, same_answer}
 use Rattle.amm_model.proofs.Names.{asset_cases, same_name_itself}
-use Rattle.amm_model.proofs.Balances.{Rest, Added, added_added, Taken}
+use Rattle.amm_model.proofs.Balances.{Rest, Added, added_added, Taken, taken_kept}
 use Rattle.amm_model.proofs.Transfers.{Sent, transfer_sent, retire_taken}
-use Rattle.amm_model.proofs.Soundness.{OnlyAt, share_not_token}
+use Rattle.amm_model.proofs.Soundness.{tokens_apart}
 
 -- every pair stays as it is, and no pool and not the zero holder lose anything
 pub record Plain (old new : Ledger) : Type 0 where
@@ -118,9 +119,6 @@ module _ (old : Ledger) (asset : Asset) (user : List ℕ) (to : Holder) (n : ℕ
       (λ q. omega (arith, sent.totals q, sound.totals q))
       (λ q some. plain_known old made.ledger transfer_plain q (sound.known q (λ none. some (sent.totals q ∙ none)))))
 
-  pub transfer_rest : IsAtRest old → IsAtRest made.ledger
-  transfer_rest rest = rest_from old made.ledger rest transfer_plain.pairs (transfer_sound rest.sound)
-
   pub transfer_totals : TokenTotalsKept old made.ledger
   transfer_totals token = (transfer_sent old asset (holders.User user) to n made is).totals (assets.Token token)
 
@@ -138,9 +136,6 @@ issue_added l a h n made is =
 
 share_no_token : (pool name : List ℕ) → assets.Share pool ≢ assets.Token name
 share_no_token pool name e = cc
-
-tokens_other : (x y : List ℕ) → x ≢ y → assets.Token x ≢ assets.Token y
-tokens_other x y apart e = apart (let same : x ≡ y = cc in same)
 
 module _ (old : Ledger) (token : List ℕ) (to : Holder) (n : ℕ) (made : Made (Unit {0})) (is : issue old (assets.Token token) to n ≡ Ok made) where
   more : (total old (assets.Token token) + n ≤ total_limit) × Added (assets.Token token) to n old made.ledger
@@ -171,7 +166,7 @@ module _ (old : Ledger) (token : List ℕ) (to : Holder) (n : ℕ) (made : Made 
   issue_rest listed rest = rest_from old made.ledger rest more.1.rest.pairs (issue_sound listed rest.sound)
 
   pub issue_deposited : Deposited token n old made.ledger
-  issue_deposited = record { here = more.1.whole; others = λ other apart. more.1.totals (assets.Token other) (tokens_other other token apart) }
+  issue_deposited = record { here = more.1.whole; others = λ other apart. more.1.totals (assets.Token other) (tokens_apart other token apart) }
 
 -- ---- retire
 
@@ -180,7 +175,7 @@ module _ (old : Ledger) (token user : List ℕ) (n : ℕ) (made : Made (Unit {0}
   less = (retire_taken old (assets.Token token) (holders.User user) n made is).1
 
   stays : (q : Asset) (p : Holder) → p ≢ holders.User user → balance old q p ≤ balance made.ledger q p
-  stays q p apart = elim (less.elsewhere q p) [ inl both ↦ absurd (apart both.1) | inr e ↦ omega arith ]
+  stays = taken_kept (assets.Token token) (holders.User user) n old made.ledger less
 
   pub retire_plain : Plain old made.ledger
   retire_plain = record {
@@ -207,65 +202,30 @@ module _ (old : Ledger) (token user : List ℕ) (n : ℕ) (made : Made (Unit {0}
   retire_rest rest = rest_from old made.ledger rest less.rest.pairs (retire_sound rest.sound)
 
   pub retire_withdrawn : Withdrawn token n old made.ledger
-  retire_withdrawn = record { here = less.whole; others = λ other apart. less.totals (assets.Token other) (tokens_other other token apart) }
+  retire_withdrawn = record { here = less.whole; others = λ other apart. less.totals (assets.Token other) (tokens_apart other token apart) }
 
 -- ---- the settings and the time
 
-module _ (old : Ledger) (to : Holder) where
-  pub fee_to_plain : Plain old (with_fee_to old to)
-  fee_to_plain = record { pairs = refl; listed = λ token is. is; held = λ q pool. omega arith; zero = λ q. omega arith; shares = λ pool. refl }
+-- other settings, and another time
+module _ (old : Ledger) (fee_to : Holder) (setter : List ℕ) (time : ℕ) where
+  abbrev set_to : Ledger
+  set_to = record old { fee_to = fee_to; setter = setter; time = time }
 
-  pub fee_to_sound : IsSound old → IsSound (with_fee_to old to)
-  fee_to_sound sound = plain_sound old (with_fee_to old to) sound fee_to_plain record {
+  pub set_plain : Plain old set_to
+  set_plain = record { pairs = refl; listed = λ token is. is; held = λ q pool. omega arith; zero = λ q. omega arith; shares = λ pool. refl }
+
+  pub set_sound : time ≤ total_limit → IsSound old → IsSound set_to
+  set_sound limit sound = plain_sound old set_to sound set_plain record {
     totals = sound.totals;
-    known = λ q some. plain_known old (with_fee_to old to) fee_to_plain q (sound.known q some);
+    known = λ q some. plain_known old set_to set_plain q (sound.known q some);
     tokens = sound.tokens;
-    time = sound.time;
+    time = limit;
     quotes = sound.quotes;
     observations = sound.observations;
   }
-
-  pub fee_to_rest : IsAtRest old → IsAtRest (with_fee_to old to)
-  fee_to_rest rest = rest_from old (with_fee_to old to) rest refl (fee_to_sound rest.sound)
-
-  pub fee_to_totals : TokenTotalsKept old (with_fee_to old to)
-  fee_to_totals token = refl
-
-module _ (old : Ledger) (to : List ℕ) where
-  pub setter_plain : Plain old (with_setter old to)
-  setter_plain = record { pairs = refl; listed = λ token is. is; held = λ q pool. omega arith; zero = λ q. omega arith; shares = λ pool. refl }
-
-  pub setter_sound : IsSound old → IsSound (with_setter old to)
-  setter_sound sound = plain_sound old (with_setter old to) sound setter_plain record {
-    totals = sound.totals;
-    known = λ q some. plain_known old (with_setter old to) setter_plain q (sound.known q some);
-    tokens = sound.tokens;
-    time = sound.time;
-    quotes = sound.quotes;
-    observations = sound.observations;
-  }
-
-  pub setter_rest : IsAtRest old → IsAtRest (with_setter old to)
-  setter_rest rest = rest_from old (with_setter old to) rest refl (setter_sound rest.sound)
-
-  pub setter_totals : TokenTotalsKept old (with_setter old to)
-  setter_totals token = refl
 
 abbrev pub at_time : Ledger → ℕ → Ledger
 at_time old time = record old { time = time }
-
-at_time_plain : (old : Ledger) (time : ℕ) → Plain old (at_time old time)
-at_time_plain old time = record { pairs = refl; listed = λ token is. is; held = λ q pool. omega arith; zero = λ q. omega arith; shares = λ pool. refl }
-
-at_time_sound : (old : Ledger) (time : ℕ) → time ≤ total_limit → IsSound old → IsSound (at_time old time)
-at_time_sound old time limit sound = plain_sound old (at_time old time) sound (at_time_plain old time) record {
-  totals = sound.totals;
-  known = λ q some. plain_known old (at_time old time) (at_time_plain old time) q (sound.known q some);
-  tokens = sound.tokens;
-  time = limit;
-  quotes = sound.quotes;
-  observations = sound.observations;
-}
 
 module _ (old : Ledger) (time : ℕ) (made : Made (Unit {0})) (is : set_time old time ≡ Ok made) where
   later : at_time old time ≡ made.ledger
@@ -274,13 +234,10 @@ module _ (old : Ledger) (time : ℕ) (made : Made (Unit {0})) (is : set_time old
       ap (λ (k : Made (Unit {0})). k.ledger) (same_answer (record { ledger = at_time old time; answer = tt }) made past.1)
 
   pub set_time_plain : Plain old made.ledger
-  set_time_plain = subst (Plain old) later (at_time_plain old time)
+  set_time_plain = subst (Plain old) later (set_plain old old.fee_to old.setter time)
 
   pub set_time_sound : time ≤ total_limit → IsSound old → IsSound made.ledger
-  set_time_sound limit sound = subst IsSound later (at_time_sound old time limit sound)
-
-  pub set_time_rest : time ≤ total_limit → IsAtRest old → IsAtRest made.ledger
-  set_time_rest limit rest = rest_from old made.ledger rest set_time_plain.pairs (set_time_sound limit rest.sound)
+  set_time_sound limit sound = subst IsSound later (set_sound old old.fee_to old.setter time limit sound)
 
   pub set_time_totals : TokenTotalsKept old made.ledger
   set_time_totals token = ap (λ (l : Ledger). total l (assets.Token token)) (sym later)
@@ -294,11 +251,7 @@ listed_before : (tokens : List (List ℕ)) (token name : List ℕ) → is_listed
 listed_before tokens token name is = list_any-append (same_name name) tokens (token ∷ []) ∙ ap (λ b. b || is_listed (token ∷ []) name) is
 
 listed_last : (tokens : List (List ℕ)) (token : List ℕ) → is_listed (tokens ++ token ∷ []) token ≡ true
-listed_last tokens token = list_any-append (same_name token) tokens (token ∷ []) ∙ either (is_listed tokens token) (is_listed (token ∷ []) token) (ap (λ b. b || false) (same_name_itself token))
-  where
-    either : (a b : Bool) → b ≡ true → (a || b) ≡ true
-    either true b e = refl
-    either false b e = e
+listed_last tokens token = list_any-append (same_name token) tokens (token ∷ []) ∙ or_right (is_listed tokens token) (is_listed (token ∷ []) token) (ap (λ b. b || false) (same_name_itself token))
 
 one_more_plain : (old : Ledger) (token : List ℕ) → Plain old (one_more old token)
 one_more_plain old token = record { pairs = refl; listed = listed_before old.tokens token; held = λ q pool. omega arith; zero = λ q. omega arith; shares = λ pool. refl }
@@ -358,8 +311,3 @@ module _ (old : Ledger) (token : List ℕ) (made : Made (Unit {0})) (is : list o
 
   pub list_totals : TokenTotalsKept old made.ledger
   list_totals name = ap (λ (all : HoldingsByAsset). sum_held (holdings_of all (assets.Token name))) named.holdings
-
--- ---- the pairs' operations, where all but one pool stay
-
-pub only_at_totals : (pool : List ℕ) (old new : Ledger) → OnlyAt pool old new → TokenTotalsKept old new
-only_at_totals pool old new only token = only.totals (assets.Token token) (share_not_token pool token)

@@ -12,7 +12,7 @@ use Rattle.std.proofs.lemmas.List.Elements.{All-from_recursion}
 use Rattle.std.proofs.lemmas.List.Kept.{AllPairs-cons, Contains-dedup, Contains-from_dedup, IsStrictlySortedBy-dedup}
 use Rattle.std.proofs.lemmas.List.Sorted.{Contains-permutation, IsPermutation-sym}
 use Rattle.std.proofs.lemmas.List.Sums.{fails_before_first}
-use Rattle.std.proofs.lemmas.Bool.{cases_lt}
+use Rattle.std.proofs.lemmas.Bool.{cases_lt, true≢false}
 use Rattle.std.proofs.lemmas.Map.Keys.{IsDistinct-from_apart}
 use Rattle.std.proofs.lemmas.Map.Made.{is_member-Decides, length-le_from_is_member}
 use Rattle.std.proofs.lemmas.List.{get_or-map}
@@ -102,15 +102,12 @@ once_tokens problem sound i j d ij below = before-apart _ _ (sound.ascending i j
 pub place-lt_from_Contains : (tokens : List Name) (name : Name) → Contains tokens name → token_place tokens name < length tokens
 place-lt_from_Contains tokens name (k, below, is) = pick (cases_lt (token_place tokens name) (length tokens))
   where
-    apart : true ≡ false → ⊥
-    apart e = cc
-
     pick : (token_place tokens name < length tokens) ⊎ (length tokens ≤ token_place tokens name) → token_place tokens name < length tokens
     pick (inl lt) = lt
     pick (inr past) =
         let fails = fails_before_first (bytes_eq name) tokens k name (omega arith) in
         let passes = (bytes_eq-Decides name (get_or tokens k name)).1 (sym is) in
-        absurd (apart (sym passes ∙ fails))
+        absurd (true≢false (sym passes ∙ fails))
 
 pub source_there : (problem : ProblemView) → IsProblem problem → token_place problem.tokens problem.s < length problem.tokens
 source_there problem sound = place-lt_from_Contains problem.tokens problem.s ((sound.tokens problem.s).1 (0, omega arith, refl))

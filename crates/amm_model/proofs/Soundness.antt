@@ -15,8 +15,8 @@ use Rattle.amm_model.specs.Ledger.{Ledger, Pairs, balance, total, total_limit, t
 use Rattle.amm_model.specs.Pools.{supply, same_name, asset0, asset1}
 use Rattle.amm_model.specs.Sound.{IsSoundPair, IsKnown, IsSound}
 use Rattle.amm_model.specs.Formulas.{IsBacked}
-use Rattle.amm_model.proofs.Names.{name_cases, asset_cases, pair_of-set_other}
-use Rattle.amm_model.proofs.Balances.{Added, Taken}
+use Rattle.amm_model.proofs.Names.{name_cases, asset_cases, pair_of-set_other, some_there, one_value}
+use Rattle.amm_model.proofs.Balances.{Rest, rest_same, Taken, taken_kept}
 use Rattle.amm_model.proofs.Transfers.{Sent}
 
 -- all pools but this one keep their record and their supply, and lose nothing; the zero holder loses nothing
@@ -34,6 +34,21 @@ pub record OnlyAt (pool : List ℕ) (old new : Ledger) : Type 0 where
   pub zero : (asset : Asset) → balance old asset holders.Zero ≤ balance new asset holders.Zero
   pub totals : (asset : Asset) → asset ≢ assets.Share pool → total new asset ≡ total old asset
 
+pools_apart : (x y : List ℕ) → x ≢ y → holders.Pool x ≢ holders.Pool y
+pools_apart x y apart e = apart (let same : x ≡ y = cc in same)
+
+zero_apart : (x : List ℕ) → holders.Zero ≢ holders.Pool x
+zero_apart x e = cc
+
+pub share_not_token : (pool name : List ℕ) → assets.Token name ≢ assets.Share pool
+share_not_token pool name e = cc
+
+pub shares_apart : (x y : List ℕ) → x ≢ y → assets.Share x ≢ assets.Share y
+shares_apart x y apart e = apart (let same : x ≡ y = cc in same)
+
+pub tokens_apart : (x y : List ℕ) → x ≢ y → assets.Token x ≢ assets.Token y
+tokens_apart x y apart e = apart (let same : x ≡ y = cc in same)
+
 pub only_at_then : (pool : List ℕ) (a b c : Ledger) → OnlyAt pool a b → OnlyAt pool b c → OnlyAt pool a c
 only_at_then pool a b c first second = record {
   tokens = second.tokens ∙ first.tokens;
@@ -50,21 +65,26 @@ only_at_then pool a b c first second = record {
   totals = λ q apart. second.totals q apart ∙ first.totals q apart;
 }
 
-pub same_only : (pool : List ℕ) (a : Ledger) → OnlyAt pool a a
-same_only pool a = record {
-  tokens = refl;
-  time = refl;
-  fee_to = refl;
-  setter = refl;
-  quotes = refl;
-  observations = refl;
-  names = refl;
-  count = refl;
-  pairs = λ other apart. refl;
-  held = λ q other apart. omega arith;
-  zero = λ q. omega arith;
-  totals = λ q apart. refl;
+-- where balances alone changed
+pub rest_only : (pool : List ℕ) (old new : Ledger) → Rest old new → ((asset : Asset) (p : Holder) → p ≢ holders.Pool pool → balance old asset p ≤ balance new asset p)
+    → ((asset : Asset) → asset ≢ assets.Share pool → total new asset ≡ total old asset) → OnlyAt pool old new
+rest_only pool old new rest kept totals = record {
+  tokens = rest.tokens;
+  time = rest.time;
+  fee_to = rest.fee_to;
+  setter = rest.setter;
+  quotes = rest.quotes;
+  observations = rest.observations;
+  names = ap keys_of rest.pairs;
+  count = ap length rest.pairs;
+  pairs = λ other apart. ap (λ (ps : Pairs). pair_of ps other) rest.pairs;
+  held = λ q other apart. kept q (holders.Pool other) (pools_apart other pool apart);
+  zero = λ q. kept q holders.Zero (zero_apart pool);
+  totals = totals;
 }
+
+pub same_only : (pool : List ℕ) (a : Ledger) → OnlyAt pool a a
+same_only pool a = rest_only pool a a (rest_same a) (λ q p apart. omega arith) (λ q apart. refl)
 
 -- the record of the pool alone
 pub with_pair_only : (l : Ledger) (pool : List ℕ) (new : PairRecord) → IsSome (pair_of l.pairs pool) → OnlyAt pool l (with_pair l pool new)
@@ -83,94 +103,28 @@ with_pair_only l pool new there = record {
   totals = λ q apart. refl;
 }
 
-pools_apart : (x y : List ℕ) → x ≢ y → holders.Pool x ≢ holders.Pool y
-pools_apart x y apart e = apart (let same : x ≡ y = cc in same)
-
-zero_apart : (x : List ℕ) → holders.Zero ≢ holders.Pool x
-zero_apart x e = cc
-
-pub share_not_token : (pool name : List ℕ) → assets.Token name ≢ assets.Share pool
-share_not_token pool name e = cc
-
-pub shares_apart : (x y : List ℕ) → x ≢ y → assets.Share x ≢ assets.Share y
-shares_apart x y apart e = apart (let same : x ≡ y = cc in same)
-
-pub tokens_apart : (x y : List ℕ) → x ≢ y → assets.Token x ≢ assets.Token y
-tokens_apart x y apart e = apart (let same : x ≡ y = cc in same)
-
 -- what a pool sends is its own loss alone
 pub sent_only : (asset : Asset) (pool : List ℕ) (n : ℕ) (old new : Ledger) → Sent asset (holders.Pool pool) n old new → OnlyAt pool old new
-sent_only asset pool n old new sent = record {
-  tokens = sent.rest.tokens;
-  time = sent.rest.time;
-  fee_to = sent.rest.fee_to;
-  setter = sent.rest.setter;
-  quotes = sent.rest.quotes;
-  observations = sent.rest.observations;
-  names = ap keys_of sent.rest.pairs;
-  count = ap length sent.rest.pairs;
-  pairs = λ other apart. ap (λ (ps : Pairs). pair_of ps other) sent.rest.pairs;
-  held = λ q other apart. sent.grown q (holders.Pool other) (pools_apart other pool apart);
-  zero = λ q. sent.grown q holders.Zero (zero_apart pool);
-  totals = λ q apart. sent.totals q;
-}
-
--- shares of the pool that are new
-pub added_only : (pool : List ℕ) (h : Holder) (n : ℕ) (old new : Ledger) → Added (assets.Share pool) h n old new → OnlyAt pool old new
-added_only pool h n old new added = record {
-  tokens = added.rest.tokens;
-  time = added.rest.time;
-  fee_to = added.rest.fee_to;
-  setter = added.rest.setter;
-  quotes = added.rest.quotes;
-  observations = added.rest.observations;
-  names = ap keys_of added.rest.pairs;
-  count = ap length added.rest.pairs;
-  pairs = λ other apart. ap (λ (ps : Pairs). pair_of ps other) added.rest.pairs;
-  held = λ q other apart. added.grown q (holders.Pool other);
-  zero = λ q. added.grown q holders.Zero;
-  totals = λ q apart. added.totals q apart;
-}
+sent_only asset pool n old new sent = rest_only pool old new sent.rest sent.grown (λ q apart. sent.totals q)
 
 -- shares of the pool that the pool gave up
 pub taken_only : (pool : List ℕ) (n : ℕ) (old new : Ledger) → Taken (assets.Share pool) (holders.Pool pool) n old new → OnlyAt pool old new
-taken_only pool n old new taken = record {
-  tokens = taken.rest.tokens;
-  time = taken.rest.time;
-  fee_to = taken.rest.fee_to;
-  setter = taken.rest.setter;
-  quotes = taken.rest.quotes;
-  observations = taken.rest.observations;
-  names = ap keys_of taken.rest.pairs;
-  count = ap length taken.rest.pairs;
-  pairs = λ other apart. ap (λ (ps : Pairs). pair_of ps other) taken.rest.pairs;
-  held = λ q other apart. kept q (holders.Pool other) (pools_apart other pool apart);
-  zero = λ q. kept q holders.Zero (zero_apart pool);
-  totals = λ q apart. taken.totals q apart;
-} where
-  kept : (q : Asset) (p : Holder) → p ≢ holders.Pool pool → balance old q p ≤ balance new q p
-  kept q p apart = elim (taken.elsewhere q p) [ inl both ↦ absurd (apart both.1) | inr e ↦ omega arith ]
-
--- the shares of the pool are known and within the limit
-pub record IsWithin (ledger : Ledger) (pool : List ℕ) : Type 0 where
-  pub there : IsSome (pair_of ledger.pairs pool)
-  pub limit : supply ledger pool ≤ total_limit
+taken_only pool n old new taken = rest_only pool old new taken.rest (taken_kept (assets.Share pool) (holders.Pool pool) n old new taken) taken.totals
 
 -- the other pools stay sound, so only this one is left to show
-pub sound_but_at : (pool : List ℕ) (old new : Ledger) → IsSound old → OnlyAt pool old new → IsWithin new pool
-    → ((pair : PairRecord) → pair_of new.pairs pool ≡ Some pair → IsSoundPair new pool pair) → IsSound new
-sound_but_at pool old new sound only within here = record {
+pub sound_but_at : (pool : List ℕ) (old new : Ledger) (now : PairRecord) → IsSound old → OnlyAt pool old new → pair_of new.pairs pool ≡ Some now → supply new pool ≤ total_limit → IsSoundPair new pool now → IsSound new
+sound_but_at pool old new now sound only there limit this = record {
   pairs = λ other pair is. elim (name_cases other pool) [
     | inl e ↦ subst (λ (k : List ℕ). IsSoundPair new k pair) (sym e) (here pair (ap (pair_of new.pairs) (sym e) ∙ is))
     | inr apart ↦ kept other pair apart (sound.pairs other pair (sym (only.pairs other apart) ∙ is))
   ];
   names = subst (λ (ks : List (List ℕ)). IsDistinct same_name ks) (sym only.names) sound.names;
   totals = λ q. elim (asset_cases q (assets.Share pool)) [
-    | inl e ↦ subst (λ (k : Asset). total new k ≤ total_limit) (sym e) within.limit
+    | inl e ↦ subst (λ (k : Asset). total new k ≤ total_limit) (sym e) limit
     | inr apart ↦ omega (arith, only.totals q apart, sound.totals q)
   ];
   known = λ q some. elim (asset_cases q (assets.Share pool)) [
-    | inl e ↦ subst (λ (k : Asset). IsKnown new k) (sym e) within.there
+    | inl e ↦ subst (λ (k : Asset). IsKnown new k) (sym e) (some_there (pair_of new.pairs pool) now there)
     | inr apart ↦ still q apart (sound.known q (λ none. some (only.totals q apart ∙ none)))
   ];
   tokens = subst (λ (ts : List (List ℕ)). length ts ≤ token_limit) (sym only.tokens) sound.tokens;
@@ -179,6 +133,9 @@ sound_but_at pool old new sound only within here = record {
   quotes = subst (λ (qs : List Quote). length qs ≤ quote_limit) (sym only.quotes) sound.quotes;
   observations = subst (λ (os : List Observation). length os ≤ observation_limit) (sym only.observations) sound.observations;
 } where
+  here : (pair : PairRecord) → pair_of new.pairs pool ≡ Some pair → IsSoundPair new pool pair
+  here pair is = subst (λ (p : PairRecord). IsSoundPair new pool p) (one_value (pair_of new.pairs pool) now pair there is) this
+
   kept : (other : List ℕ) (pair : PairRecord) → other ≢ pool → IsSoundPair old other pair → IsSoundPair new other pair
   kept other pair apart was =
       let same : supply new other ≡ supply old other = only.totals (assets.Share other) (shares_apart other pool apart) in

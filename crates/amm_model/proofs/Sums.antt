@@ -28,14 +28,14 @@ abbrev pub at : {T : Type 0} → (T → T → Bool) → T → ℕ → T → ℕ
 at same j x y = cond (same y j) x 0
 
 -- where y is not j nothing counts
-at-other : {T : Type 0} (same : T → T → Bool) → ((a b : T) → Decides (same a b) (a ≡ b)) → (j : T) (x : ℕ) (y : T) → y ≢ j → at same j x y ≡ 0
+pub at-other : {T : Type 0} (same : T → T → Bool) → ((a b : T) → Decides (same a b) (a ≡ b)) → (j : T) (x : ℕ) (y : T) → y ≢ j → at same j x y ≡ 0
 at-other same decides j x y apart = pick (same y j) (decides y j).0
   where
     pick : (b : Bool) → (b ≡ true → y ≡ j) → cond b x 0 ≡ 0
     pick true says = absurd (apart (says refl))
     pick false says = refl
 
-at-same : {T : Type 0} (same : T → T → Bool) → ((a b : T) → Decides (same a b) (a ≡ b)) → (j : T) (x : ℕ) → at same j x j ≡ x
+pub at-same : {T : Type 0} (same : T → T → Bool) → ((a b : T) → Decides (same a b) (a ≡ b)) → (j : T) (x : ℕ) → at same j x j ≡ x
 at-same same decides j x = ap (λ (b : Bool). cond b x 0) ((decides j j).1 refl)
 
 -- every element differs from j: nothing counts

@@ -10,7 +10,7 @@ use Rattle.amm_names.specs.Order.{same_holder}
 use Rattle.amm_model.specs.Ledger.{Ledger, Made, Outcome, done, balance, total, total_limit, added, taken, moved, transfer, issue, retire}
 use Rattle.amm_model.proofs.Guards.{past_refusal, same_answer}
 use Rattle.amm_model.proofs.Names.{asset_cases}
-use Rattle.amm_model.proofs.Balances.{Rest, rest_then, rest_same, Added, added_added, Taken, taken_taken}
+use Rattle.amm_model.proofs.Balances.{Rest, rest_then, rest_same, Added, added_added, Taken, taken_kept, taken_taken}
 
 -- n units of the asset went away from a holder, to another or to itself
 pub record Sent (asset : Asset) (from : Holder) (n : ℕ) (old new : Ledger) : Type 0 where
@@ -39,10 +39,7 @@ sent_to_another a f t n old mid new funds less more = record {
     | inl e ↦ ap (total new) e ∙ same_total ∙ sym (ap (total old) e)
     | inr other ↦ more.totals q other ∙ less.totals q other
   ];
-  grown = λ q p other. elim (less.elsewhere q p) [
-    | inl both ↦ absurd (other both.1)
-    | inr e ↦ omega (arith, more.grown q p)
-  ];
+  grown = λ q p other. omega (arith, taken_kept a f n old mid less q p other, more.grown q p);
   others = λ q p other. more.others q p other ∙ less.others q p other;
   least = omega (arith, less.here, more.grown a f);
 } where

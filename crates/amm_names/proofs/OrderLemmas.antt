@@ -46,6 +46,3 @@ asset_eq = asset_laws.matches_eq-law
 -- equal assets are one asset
 pub asset_equal : (x y : Asset) → (asset_is.ghosts).eq x y ≡ true → x ≡ y
 asset_equal x y e = asset_antisymmetric x y ((Equal-is (asset_cmp x y)).0 (sym (asset_eq x y) ∙ e))
-
-pub holder_equal : (x y : Holder) → (holder_is.ghosts).eq x y ≡ true → x ≡ y
-holder_equal x y e = holder_antisymmetric x y ((Equal-is (holder_cmp x y)).0 (sym (holder_eq x y) ∙ e))

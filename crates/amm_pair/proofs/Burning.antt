@@ -1,6 +1,6 @@
 -- What an accepted burn leaves.
 use Rattle.std.proofs.Common.{◌≡◌, ◌≢◌, ◌≤◌, ◌<◌, ◌+◌, ◌-◌, ◌*◌, ◌==◌, ◌||◌, ℕ, List, Ok, refl, sym, ap, ◌∙◌, Some, inl, inr, subst, arith}
-use Rattle.std.proofs.Math.Nat.{mul-le-mul, mul-le-mul_right, div-mul-le_self}
+use Rattle.std.proofs.Math.Nat.{le_trans, mul-le-mul, mul-le-mul_right, div-mul-le_self}
 use Rattle.amm_names.specs.declared.holder.Holder.{Holder}
 use Rattle.amm_names.specs.declared.holder.Holder.TheVariants as holders
 use Rattle.amm_names.specs.declared.holder.Asset.TheVariants as assets
@@ -10,18 +10,17 @@ use Rattle.amm_model.specs.declared.fault.Refusal.TheVariants as code
 use Rattle.amm_names.specs.Pools.{pool_token0, pool_token1}
 use Rattle.amm_model.specs.Ledger.{Ledger, Made, Pairs, transfer, retire, pair_of, with_pair}
 use Rattle.amm_model.specs.Pools.{asset0, asset1, held0, held1, supply}
-use Rattle.amm_model.specs.Operations.{free_pair, updated, renewed, is_nobody, fee_due, with_fee, after_fee, with_product, own_shares, parts_of, pay_out, burn, PerShareKept}
-use Rattle.amm_model.specs.Sound.{IsAtRest, IsCovered, IsSoundPair, IsSound}
-use Rattle.amm_pool.proofs.Products.{burned_product}
+use Rattle.amm_model.specs.Operations.{free_pair, updated, is_nobody, fee_due, with_fee, after_fee, with_product, own_shares, parts_of, pay_out, burn, PerShareKept}
+use Rattle.amm_model.specs.Sound.{IsCovered, IsSoundPair, IsSound}
+use Rattle.amm_pool.proofs.Products.{burned_product, covered_scaled}
 use Rattle.amm_model.proofs.Guards.{given, not_refused, same_answer}
-use Rattle.amm_model.proofs.Names.{some_there, one_value, pair_of-set_here}
 use Rattle.amm_model.proofs.Balances.{Taken}
 use Rattle.amm_model.proofs.Transfers.{Sent, transfer_sent, retire_taken}
-use Rattle.amm_model.proofs.Soundness.{OnlyAt, only_at_then, with_pair_only, sent_only, taken_only, share_not_token, tokens_apart}
-use Rattle.amm_model.proofs.Keeping.{Keeps, keeps_at, SameSettings, only_same_settings, rest_kept}
-use Rattle.amm_pair.proofs.Operations.{Found, free_found, Renewed, updated_renewed, settled_sound, IsKept}
-use Rattle.amm_pair.proofs.Minting.{covered_scaled, square_small}
-use Rattle.amm_pair.proofs.Shares.{Grown, fee_grown, grown_only, Closed, closed, same_lock, fee_due_within, no_fee_due, not_zero}
+use Rattle.amm_model.proofs.Soundness.{OnlyAt, only_at_then, sent_only, taken_only, share_not_token, tokens_apart}
+use Rattle.amm_model.proofs.Laters.{Kept}
+use Rattle.amm_pair.proofs.Operations.{Found, free_found, Renewed, updated_renewed, IsKept}
+use Rattle.amm_pair.proofs.Ending.{Ended, ended_kept, ended_sound, ended_per_share}
+use Rattle.amm_pair.proofs.Shares.{Grown, fee_grown, grown_only, fee_due_within, no_fee_due, not_zero}
 
 -- a burn that pays out: its shares end, and then each part is sent
 pub record PaidOut (pool : List ℕ) (shares : ℕ) (parts : BurnReceipt) (old new : Ledger) : Type 0 where
@@ -65,10 +64,7 @@ burned_at_most s own r0 r1 b0 b1 m0 m1 h0 h1 k over0 over1 part0 part1 fit0 fit1
     let low1 : b1 - m1 ≤ h1 = omega arith in
     let both : (b0 - m0) * (b1 - m1) ≤ h0 * h1 = mul-le-mul low0 low1 in
     let wide : ((b0 - m0) * (b1 - m1)) * (s * s) ≤ (h0 * h1) * (s * s) = mul-le-mul_right (s * s) both in
-    joined product wide
-  where
-    joined : {x y z : ℕ} → x ≤ y → y ≤ z → x ≤ z
-    joined p q = omega arith
+    le_trans product wide
 
 -- what a burn leaves
 pub record Burned (old : Ledger) (pool : List ℕ) (made : Ledger) (receipt : BurnReceipt) : Type 0 where
@@ -135,24 +131,8 @@ module _ (l : Ledger) (pool : List ℕ) (to : Holder) (made : Made BurnReceipt) 
   still : pair_of m.mid.pairs pool ≡ Some m.was
   still = ap (λ (ps : Pairs). pair_of ps pool) (m.paid.second.rest.pairs ∙ m.paid.first.rest.pairs ∙ m.paid.taken.rest.pairs ∙ grown.rest.pairs) ∙ m.found.there
 
-  abbrev final : PairRecord
-  final = with_product (is_nobody l.fee_to) (renewed (after_fee (is_nobody l.fee_to) m.was) m.mid.time (held0 m.mid pool) (held1 m.mid pool))
-
-  made_is : made.ledger ≡ with_pair m.mid pool final
-  made_is = m.after ∙ ap (λ (p : PairRecord). with_pair m.mid pool (with_product (is_nobody l.fee_to) p)) m.renewed.is
-
-  written : pair_of made.ledger.pairs pool ≡ Some final
-  written = ap (λ (k : Ledger). pair_of k.pairs pool) made_is ∙ pair_of-set_here m.mid.pairs pool final (some_there (pair_of m.mid.pairs pool) m.was still)
-
-  burn_only : OnlyAt pool l made.ledger
-  burn_only = subst (OnlyAt pool l) (sym made_is) (only_at_then pool l m.mid (with_pair m.mid pool final) only (with_pair_only m.mid pool final (some_there (pair_of m.mid.pairs pool) m.was still)))
-
-  pub burn_keeps : Keeps l made.ledger
-  burn_keeps = keeps_at pool l made.ledger m.was final burn_only m.found.there m.found.free written
-      (same_lock (is_nobody l.fee_to) m.was m.mid.time (held0 m.mid pool) (held1 m.mid pool) ∙ m.found.free)
-
-  pub burn_same_settings : SameSettings l made.ledger
-  burn_same_settings = only_same_settings pool l made.ledger burn_only
+  abbrev ending : Ended l pool made.ledger
+  ending = record { was = m.was; found = m.found; mid = m.mid; only = only; still = still; now = m.now; renewed = m.renewed; after = m.after }
 
   module _ (apart : pool_token0 pool ≢ pool_token1 pool) (sound : IsSound l) where
     before : IsSoundPair l pool m.was
@@ -196,26 +176,11 @@ module _ (l : Ledger) (pool : List ℕ) (to : Holder) (made : Made BurnReceipt) 
       | inr some ↦ inr (omega (arith, only.zero (assets.Share pool)))
     ]
 
-    final_closed : Closed (supply m.mid pool) (held0 m.mid pool) (held1 m.mid pool) final
-    final_closed = closed (is_nobody l.fee_to) m.was m.mid.time (supply m.mid pool) (held0 m.mid pool) (held1 m.mid pool) before.small m.renewed.small0 m.renewed.small1 square
-
     pub burn_sound : IsSound made.ledger
-    burn_sound = subst IsSound (sym made_is)
-        (settled_sound pool l m.mid m.was final sound m.found.there only still
-        (omega (arith, square_small (supply m.mid pool) (held0 m.mid pool) (held1 m.mid pool) square m.renewed.small0 m.renewed.small1))
-        final_closed.small final_closed.r0 final_closed.r1 final_closed.backed kept)
+    burn_sound = ended_sound l pool made.ledger ending sound square kept
 
     pub burn_per_share : PerShareKept l made.ledger pool made.answer.fee_shares
-    burn_per_share was now at_old at_new pos =
-        let e : m.was ≡ was = one_value (pair_of l.pairs pool) m.was was m.found.there at_old in
-        let f : final ≡ now = one_value (pair_of made.ledger.pairs pool) final now written at_new in
-        let t : supply made.ledger pool ≡ supply m.mid pool = ap (λ (k : Ledger). supply k pool) made_is in
-        subst (λ (p : PairRecord). (p.r0 * p.r1) * (supply made.ledger pool * supply made.ledger pool) ≤ (now.r0 * now.r1) * ((supply l pool + made.answer.fee_shares) * (supply l pool + made.answer.fee_shares))) e
-        (subst (λ (p : PairRecord). (m.was.r0 * m.was.r1) * (supply made.ledger pool * supply made.ledger pool) ≤ (p.r0 * p.r1) * ((supply l pool + made.answer.fee_shares) * (supply l pool + made.answer.fee_shares))) f
-        (subst (λ (k : ℕ). (m.was.r0 * m.was.r1) * (supply made.ledger pool * supply made.ledger pool) ≤ (final.r0 * final.r1) * ((supply l pool + k) * (supply l pool + k))) (sym m.fee)
-        (subst (λ (k : ℕ). (m.was.r0 * m.was.r1) * (k * k) ≤ (final.r0 * final.r1) * (s * s)) (sym t)
-        (subst (λ (k : ℕ). (m.was.r0 * m.was.r1) * (supply m.mid pool * supply m.mid pool) ≤ (k * final.r1) * (s * s)) (sym final_closed.r0)
-        (subst (λ (k : ℕ). (m.was.r0 * m.was.r1) * (supply m.mid pool * supply m.mid pool) ≤ (held0 m.mid pool * k) * (s * s)) (sym final_closed.r1) product)))))
+    burn_per_share = subst (λ (k : ℕ). PerShareKept l made.ledger pool k) (sym m.fee) (ended_per_share l pool made.ledger ending sound square fee (λ pos. product))
 
-  pub burn_rest : pool_token0 pool ≢ pool_token1 pool → IsAtRest l → IsAtRest made.ledger
-  burn_rest apart rest = rest_kept l made.ledger rest burn_keeps (burn_sound apart rest.sound)
+  pub burn_kept : pool_token0 pool ≢ pool_token1 pool → Kept l made.ledger
+  burn_kept apart = ended_kept l pool made.ledger ending (burn_sound apart)

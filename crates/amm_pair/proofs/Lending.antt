@@ -1,5 +1,6 @@
 -- What an accepted loan, its return and a swap leave.
-use Rattle.std.proofs.Common.{inl, inr, ◌≡◌, ◌≤◌, ◌-◌, ◌*◌, ℕ, nat_le, ◌==◌, ◌&&◌, ◌||◌, not, Bool, true, false, List, Option, Some, None, IsSome, Ok, refl, sym, ap, ◌∙◌, subst, arith}
+use Rattle.std.proofs.Common.{◌≡◌, ◌≤◌, ◌-◌, ◌*◌, ℕ, nat_le, ◌==◌, ◌&&◌, ◌||◌, not, true, List, Option, Some, None, Ok, refl, sym, ap, ◌∙◌, subst, arith}
+use Rattle.std.proofs.lemmas.Bool.{not-false}
 use Rattle.std.proofs.lemmas.Bool.Decides.{nat_tests}
 use Rattle.amm_names.specs.declared.holder.Holder.{Holder}
 use Rattle.amm_names.specs.declared.holder.Holder.TheVariants as holders
@@ -12,13 +13,13 @@ use Rattle.amm_model.specs.Swap.{admits}
 use Rattle.amm_model.specs.Ledger.{Ledger, Made, Pairs, pair_of, set_pair, with_pair, transfer}
 use Rattle.amm_model.specs.Pools.{asset0, asset1, held0, held1, supply, Terms}
 use Rattle.amm_model.specs.Operations.{if_there, free_pair, renewed, updated, locked, unlocked, is_token_of, lend, open_loan, came_in, keeps_product, give_back, swap}
-use Rattle.amm_model.specs.Sound.{IsSoundPair, IsSound, IsOpen, IsAtRest, ProductKept}
+use Rattle.amm_model.specs.Sound.{IsSoundPair, IsSound, IsOpen, ProductKept}
 use Rattle.amm_pool.proofs.Products.{product_kept}
 use Rattle.amm_model.proofs.Guards.{Given, given, not_refused, same_answer}
-use Rattle.amm_model.proofs.Names.{name_cases, some_there, one_value, pair_of-set_here}
+use Rattle.amm_model.proofs.Names.{some_there, one_value, pair_of-set_here}
 use Rattle.amm_model.proofs.Transfers.{transfer_sent}
-use Rattle.amm_model.proofs.Soundness.{OnlyAt, only_at_then, same_only, with_pair_only, sound_but_at, share_not_token}
-use Rattle.amm_model.proofs.Keeping.{Keeps, keeps_same, SameSettings, same_settings, same_settings_then, only_same_settings, rest_kept}
+use Rattle.amm_model.proofs.Soundness.{OnlyAt, only_at_then, same_only, with_pair_only, sound_but_at}
+use Rattle.amm_model.proofs.Laters.{Kept, kept_at}
 use Rattle.amm_pair.proofs.Operations.{Found, free_found, Renewed, updated_renewed, renewed_small, backed_grown, settled_sound, BothSent, both_only, both_pairs, sent_sound}
 
 -- what a loan leaves: the pair was free, its record is locked, and the outputs are gone
@@ -67,13 +68,17 @@ locked_sound ledger pool was sound at =
       backed = record { backed = backed.backed; kept = backed.kept };
       kept = before.kept;
     } in
-    sound_but_at pool ledger (with_pair ledger pool (locked was)) sound (with_pair_only ledger pool (locked was) there)
-    (record { there = some_there (pair_of (set_pair ledger.pairs pool (locked was)) pool) (locked was) written; limit = sound.totals (assets.Share pool) })
-    (λ pair is. subst (λ (p : PairRecord). IsSoundPair (with_pair ledger pool (locked was)) pool p) (one_value (pair_of (set_pair ledger.pairs pool (locked was)) pool) (locked was) pair written is) this)
+    sound_but_at pool ledger (with_pair ledger pool (locked was)) (locked was) sound (with_pair_only ledger pool (locked was) there) written (sound.totals (assets.Share pool)) this
 
 -- the record of the pool while it lends
 pub lent_there : (old : Ledger) (pool : List ℕ) (out0 out1 : ℕ) (made : Made PairRecord) (l : Lent old pool out0 out1 made) → pair_of made.ledger.pairs pool ≡ Some (locked l.was)
 lent_there old pool out0 out1 made l = ap (λ (ps : Pairs). pair_of ps pool) (both_pairs pool out0 out1 (with_pair old pool (locked l.was)) made.ledger l.sent) ∙ pair_of-set_here old.pairs pool (locked l.was) (some_there (pair_of old.pairs pool) l.was l.found.there)
+
+-- and the other pools as they were
+pub lent_only : (old : Ledger) (pool : List ℕ) (out0 out1 : ℕ) (made : Made PairRecord) → Lent old pool out0 out1 made → OnlyAt pool old made.ledger
+lent_only old pool out0 out1 made l =
+    let start : Ledger = with_pair old pool (locked l.was) in
+    only_at_then pool old start made.ledger (with_pair_only old pool (locked l.was) (some_there (pair_of old.pairs pool) l.was l.found.there)) (both_only pool out0 out1 start made.ledger l.sent)
 
 pub lend_sound : (ledger : Ledger) (pool : List ℕ) (out0 out1 : ℕ) (to : Holder) (made : Made PairRecord) → IsSound ledger → lend ledger pool out0 out1 to ≡ Ok made → IsSound made.ledger
 lend_sound ledger pool out0 out1 to made sound is =
@@ -97,13 +102,16 @@ pub record Returned (old : Ledger) (pool : List ℕ) (made : Ledger) : Type 0 wh
   pub after : made ≡ with_pair old pool (unlocked now)
   pub product : was.r0 * was.r1 ≤ held0 old pool * held1 old pool
 
+-- the record of the pool then, and the other pools as they were
+pub returned_there : (old : Ledger) (pool : List ℕ) (made : Ledger) (r : Returned old pool made) → pair_of made.pairs pool ≡ Some (unlocked r.now)
+returned_there old pool made r = ap (λ (k : Ledger). pair_of k.pairs pool) r.after ∙ pair_of-set_here old.pairs pool (unlocked r.now) (some_there (pair_of old.pairs pool) r.was r.there)
+
+pub returned_only : (old : Ledger) (pool : List ℕ) (made : Ledger) → Returned old pool made → OnlyAt pool old made
+returned_only old pool made r = subst (OnlyAt pool old) (sym r.after) (with_pair_only old pool (unlocked r.now) (some_there (pair_of old.pairs pool) r.was r.there))
+
 was_there : (o : Option PairRecord) (pair : PairRecord) → if_there o ≡ Ok pair → o ≡ Some pair
 was_there None pair is = cc
 was_there (Some p) pair is = ap Some (same_answer p pair is)
-
-not_false : (b : Bool) → not b ≡ false → b ≡ true
-not_false true e = refl
-not_false false e = cc
 
 admitted : (fee r0 r1 b0 b1 in0 in1 : ℕ) → admits fee r0 r1 b0 b1 in0 in1 ≡ true → r0 * r1 ≤ b0 * b1
 admitted fee r0 r1 b0 b1 in0 in1 is =
@@ -126,7 +134,7 @@ give_back_returned ledger pool out0 out1 made is =
       now = second.value;
       renewed = updated_renewed ledger pool was second.value second.was;
       after = ap (λ (m : Made SwapReceipt). m.ledger) (sym e);
-      product = admitted (pool_fee pool) was.r0 was.r1 (held0 ledger pool) (held1 ledger pool) paid.in0 paid.in1 (not_false (keeps_product ledger pool was paid) fair.0);
+      product = admitted (pool_fee pool) was.r0 was.r1 (held0 ledger pool) (held1 ledger pool) paid.in0 paid.in1 (not-false (keeps_product ledger pool was paid) fair.0);
     }
 
 pub give_back_sound : (ledger : Ledger) (pool : List ℕ) (out0 out1 : ℕ) (made : Made SwapReceipt) → IsSound ledger → give_back ledger pool out0 out1 ≡ Ok made → IsSound made.ledger
@@ -146,9 +154,7 @@ pub give_back_product : (ledger : Ledger) (pool : List ℕ) (out0 out1 : ℕ) (m
 give_back_product ledger pool out0 out1 made is was now at_old at_new =
     let back = give_back_returned ledger pool out0 out1 made is in
     let new : PairRecord = unlocked (renewed back.was ledger.time (held0 ledger pool) (held1 ledger pool)) in
-    let after : made.ledger ≡ with_pair ledger pool new = back.after ∙ ap (λ (p : PairRecord). with_pair ledger pool (unlocked p)) back.renewed.is in
-    let written : pair_of made.ledger.pairs pool ≡ Some new =
-    ap (λ (l : Ledger). pair_of l.pairs pool) after ∙ pair_of-set_here ledger.pairs pool new (some_there (pair_of ledger.pairs pool) back.was back.there) in
+    let written : pair_of made.ledger.pairs pool ≡ Some new = returned_there ledger pool made.ledger back ∙ ap (λ (p : PairRecord). Some (unlocked p)) back.renewed.is in
     let e : back.was ≡ was = one_value (pair_of ledger.pairs pool) back.was was back.there at_old in
     let f : new ≡ now = one_value (pair_of made.ledger.pairs pool) new now written at_new in
     subst (λ (p : PairRecord). p.r0 * p.r1 ≤ now.r0 * now.r1) e (subst (λ (p : PairRecord). back.was.r0 * back.was.r1 ≤ p.r0 * p.r1) f back.product)
@@ -180,62 +186,23 @@ open_loan_opened ledger pool out0 out1 to made sound is =
     subst (λ (m : Made Terms). IsSound m.ledger × IsOpen m.ledger m.answer) e
     (lend_sound ledger pool out0 out1 to lent.value sound lent.was, lend_open ledger pool out0 out1 to lent.value lent.was)
 
--- ---- what a loan and a swap keep
-
-free_and_locked : (x y : PairRecord) → x.locked ≡ false → x ≡ y → y.locked ≡ true → ⊥
-free_and_locked x y free same shut = let e : y.locked ≡ false = ap (λ (p : PairRecord). p.locked) (sym same) ∙ free in cc
-
--- a loan that is returned, where what came between kept the locks
-module _ (ledger : Ledger) (pool : List ℕ) (out0 out1 : ℕ) (to : Holder) (lent : Made PairRecord) (lends : lend ledger pool out0 out1 to ≡ Ok lent)
-    (back : Ledger) (made : Made SwapReceipt) (returns : give_back back pool out0 out1 ≡ Ok made) where
-  l : Lent ledger pool out0 out1 lent
-  l = lend_lent ledger pool out0 out1 to lent lends
-
-  b : Returned back pool made.ledger
-  b = give_back_returned back pool out0 out1 made returns
-
-  lent_only : OnlyAt pool ledger lent.ledger
-  lent_only = only_at_then pool ledger (with_pair ledger pool (locked l.was)) lent.ledger
-      (with_pair_only ledger pool (locked l.was) (some_there (pair_of ledger.pairs pool) l.was l.found.there)) (both_only pool out0 out1 (with_pair ledger pool (locked l.was)) lent.ledger l.sent)
-
-  returned_only : OnlyAt pool back made.ledger
-  returned_only = subst (OnlyAt pool back) (sym b.after) (with_pair_only back pool (unlocked b.now) (some_there (pair_of back.pairs pool) b.was b.there))
-
-  written : pair_of made.ledger.pairs pool ≡ Some (unlocked b.now)
-  written = ap (λ (k : Ledger). pair_of k.pairs pool) b.after ∙ pair_of-set_here back.pairs pool (unlocked b.now) (some_there (pair_of back.pairs pool) b.was b.there)
-
-  pub loan_keeps : Keeps lent.ledger back → Keeps ledger made.ledger
-  loan_keeps between = record {
-    stays = λ other is. elim (name_cases other pool) [
-      | inl e ↦ some_there (pair_of made.ledger.pairs other) (unlocked b.now) (ap (pair_of made.ledger.pairs) e ∙ written)
-      | inr apart ↦ subst (λ (o : Option PairRecord). IsSome o) (sym (returned_only.pairs other apart)) (between.stays other (subst (λ (o : Option PairRecord). IsSome o) (sym (lent_only.pairs other apart)) is))
-    ];
-    locked = λ other pair is shut. elim (name_cases other pool) [
-      | inl e ↦ absurd (free_and_locked l.was pair l.found.free (one_value (pair_of ledger.pairs pool) l.was pair l.found.there (ap (pair_of ledger.pairs) (sym e) ∙ is)) shut)
-      | inr apart ↦ returned_only.pairs other apart ∙ between.locked other pair (lent_only.pairs other apart ∙ is) shut
-    ];
-    no_other = λ other pair is shut. elim (name_cases other pool) [
-      | inl e ↦ absurd (free_and_locked (unlocked b.now) pair refl (one_value (pair_of made.ledger.pairs pool) (unlocked b.now) pair written (ap (pair_of made.ledger.pairs) (sym e) ∙ is)) shut)
-      | inr apart ↦ sym (lent_only.pairs other apart) ∙ between.no_other other pair (sym (returned_only.pairs other apart) ∙ is) shut
-    ];
-    zero = λ q. omega (arith, lent_only.zero q, between.zero q, returned_only.zero q);
-    totals = λ token. returned_only.totals (assets.Token token) (share_not_token pool token) ∙ between.totals token ∙ lent_only.totals (assets.Token token) (share_not_token pool token);
-  }
-
-  pub loan_same_settings : SameSettings lent.ledger back → SameSettings ledger made.ledger
-  loan_same_settings between =
-      same_settings_then ledger lent.ledger made.ledger (only_same_settings pool ledger lent.ledger lent_only) (same_settings_then lent.ledger back made.ledger between (only_same_settings pool back made.ledger returned_only))
+-- ---- what a swap keeps
 
 module _ (ledger : Ledger) (pool : List ℕ) (out0 out1 : ℕ) (to : Holder) (made : Made SwapReceipt) (is : swap ledger pool out0 out1 to ≡ Ok made) where
   both : Given (lend ledger pool out0 out1 to) (λ lent. give_back lent.ledger pool out0 out1) made
   unfolding swap
   both = given (lend ledger pool out0 out1 to) (λ lent. give_back lent.ledger pool out0 out1) made is
 
-  pub swap_keeps : Keeps ledger made.ledger
-  swap_keeps = loan_keeps ledger pool out0 out1 to both.value both.was both.value.ledger made both.after (keeps_same both.value.ledger)
+  l : Lent ledger pool out0 out1 both.value
+  l = lend_lent ledger pool out0 out1 to both.value both.was
 
-  pub swap_same_settings : SameSettings ledger made.ledger
-  swap_same_settings = loan_same_settings ledger pool out0 out1 to both.value both.was both.value.ledger made both.after (same_settings both.value.ledger)
+  r : Returned both.value.ledger pool made.ledger
+  r = give_back_returned both.value.ledger pool out0 out1 made both.after
 
-  pub swap_rest : IsAtRest ledger → IsAtRest made.ledger
-  swap_rest rest = rest_kept ledger made.ledger rest swap_keeps (swap_sound ledger pool out0 out1 to made rest.sound is)
+  swap_only : OnlyAt pool ledger made.ledger
+  swap_only = only_at_then pool ledger both.value.ledger made.ledger (lent_only ledger pool out0 out1 both.value l) (returned_only both.value.ledger pool made.ledger r)
+
+  pub swap_kept : Kept ledger made.ledger
+  swap_kept =
+      kept_at pool ledger made.ledger l.was (unlocked r.now) swap_only l.found.there l.found.free (returned_there both.value.ledger pool made.ledger r) refl
+      (λ sound. swap_sound ledger pool out0 out1 to made sound is)

@@ -15,11 +15,11 @@ use Rattle.amm_model.specs.Formulas.{IsBacked, grown}
 use Rattle.amm_model.specs.Ledger.{Ledger, Made, Pairs, balance, total, total_limit, pair_of, set_pair, with_pair, transfer, is_listed}
 use Rattle.amm_model.specs.Pools.{asset0, asset1, held0, held1, supply, first_locked, reserve_limit}
 use Rattle.amm_model.specs.Operations.{if_free, free_pair, renewed, updated_to, updated, sync, skim, excess}
-use Rattle.amm_model.specs.Sound.{IsSmall, IsCovered, IsSoundPair, IsSound, IsAtRest}
+use Rattle.amm_model.specs.Sound.{IsSmall, IsCovered, IsSoundPair, IsSound}
 use Rattle.amm_model.proofs.Guards.{given, past_refusal, same_answer}
-use Rattle.amm_model.proofs.Names.{some_there, one_value, pair_of-set_here}
+use Rattle.amm_model.proofs.Names.{some_there, pair_of-set_here}
 use Rattle.amm_model.proofs.Transfers.{Sent, transfer_sent}
-use Rattle.amm_model.proofs.Keeping.{Keeps, keeps_at, SameSettings, only_same_settings, rest_kept}
+use Rattle.amm_model.proofs.Laters.{Kept, kept_at}
 use Rattle.amm_model.proofs.Soundness.{OnlyAt, only_at_then, same_only, with_pair_only, sent_only, sound_but_at, tokens_apart}
 
 -- a pair that was there and free
@@ -100,9 +100,7 @@ settled_sound pool old mid was now sound at only still limit small e0 e1 backed 
       backed = backed;
       kept = kept;
     } in
-    sound_but_at pool old (with_pair mid pool now) sound (only_at_then pool old mid (with_pair mid pool now) only (with_pair_only mid pool now there))
-    (record { there = some_there (pair_of (set_pair mid.pairs pool now) pool) now written; limit = limit })
-    (λ pair is. subst (λ (p : PairRecord). IsSoundPair (with_pair mid pool now) pool p) (one_value (pair_of (set_pair mid.pairs pool now) pool) now pair written is) this)
+    sound_but_at pool old (with_pair mid pool now) now sound (only_at_then pool old mid (with_pair mid pool now) only (with_pair_only mid pool now there)) written limit this
 
 -- what a sync leaves
 pub record Synced (old : Ledger) (pool : List ℕ) (made : Ledger) : Type 0 where
@@ -168,9 +166,6 @@ module _ (pool : List ℕ) (n0 n1 : ℕ) (old new : Ledger) (sent : BothSent poo
     pub least1 : held1 old pool ≤ held1 new pool + n1
     least1 = omega (arith, sent.second.least, same1)
 
-    pub funds1 : n1 ≤ held1 old pool
-    funds1 = omega (arith, sent.second.funds, same1)
-
 -- what a skim leaves
 pub record Skimmed (old : Ledger) (pool : List ℕ) (made : Ledger) : Type 0 where
   pub was : PairRecord
@@ -212,9 +207,7 @@ sent_sound pool n0 n1 old new was sound at sent covered =
       backed = subst (λ (s : ℕ). IsBacked s was.r0 was.r1 was.k_last) (sym same) before.backed;
       kept = elim before.kept [ inl none ↦ inl (same ∙ none) | inr some ↦ inr (omega (arith, only.zero (assets.Share pool))) ];
     } in
-    sound_but_at pool old new sound only
-    (record { there = some_there (pair_of new.pairs pool) was still; limit = omega (arith, same, sound.totals (assets.Share pool)) })
-    (λ pair is. subst (λ (p : PairRecord). IsSoundPair new pool p) (one_value (pair_of new.pairs pool) was pair still is) this)
+    sound_but_at pool old new was sound only still (omega (arith, same, sound.totals (assets.Share pool))) this
 
 pub skim_sound : (ledger : Ledger) (pool : List ℕ) (to : Holder) (made : Made SkimReceipt) → pool_token0 pool ≢ pool_token1 pool → IsSound ledger → skim ledger pool to ≡ Ok made → IsSound made.ledger
 skim_sound ledger pool to made apart sound is =
@@ -235,17 +228,11 @@ module _ (ledger : Ledger) (pool : List ℕ) (made : Made (Unit {0})) (is : sync
   sync_only : OnlyAt pool ledger made.ledger
   sync_only = subst (OnlyAt pool ledger) (sym synced.after) (with_pair_only ledger pool synced.now (some_there (pair_of ledger.pairs pool) synced.was synced.found.there))
 
-  pub sync_keeps : Keeps ledger made.ledger
-  sync_keeps =
-      keeps_at pool ledger made.ledger synced.was synced.now sync_only synced.found.there synced.found.free
+  pub sync_kept : Kept ledger made.ledger
+  sync_kept =
+      kept_at pool ledger made.ledger synced.was synced.now sync_only synced.found.there synced.found.free
       (ap (λ (l : Ledger). pair_of l.pairs pool) synced.after ∙ pair_of-set_here ledger.pairs pool synced.now (some_there (pair_of ledger.pairs pool) synced.was synced.found.there))
-      (ap (λ (p : PairRecord). p.locked) synced.renewed.is ∙ synced.found.free)
-
-  pub sync_same_settings : SameSettings ledger made.ledger
-  sync_same_settings = only_same_settings pool ledger made.ledger sync_only
-
-  pub sync_rest : IsAtRest ledger → IsAtRest made.ledger
-  sync_rest rest = rest_kept ledger made.ledger rest sync_keeps (sync_sound ledger pool made rest.sound is)
+      (ap (λ (p : PairRecord). p.locked) synced.renewed.is ∙ synced.found.free) (λ sound. sync_sound ledger pool made sound is)
 
 module _ (ledger : Ledger) (pool : List ℕ) (to : Holder) (made : Made SkimReceipt) (is : skim ledger pool to ≡ Ok made) where
   skimmed : Skimmed ledger pool made.ledger
@@ -254,11 +241,7 @@ module _ (ledger : Ledger) (pool : List ℕ) (to : Holder) (made : Made SkimRece
   skim_only : OnlyAt pool ledger made.ledger
   skim_only = both_only pool (held0 ledger pool - skimmed.was.r0) (held1 ledger pool - skimmed.was.r1) ledger made.ledger skimmed.sent
 
-  pub skim_keeps : Keeps ledger made.ledger
-  skim_keeps = keeps_at pool ledger made.ledger skimmed.was skimmed.was skim_only skimmed.found.there skimmed.found.free (ap (λ (ps : Pairs). pair_of ps pool) (both_pairs pool _ _ ledger made.ledger skimmed.sent) ∙ skimmed.found.there) skimmed.found.free
-
-  pub skim_same_settings : SameSettings ledger made.ledger
-  skim_same_settings = only_same_settings pool ledger made.ledger skim_only
-
-  pub skim_rest : pool_token0 pool ≢ pool_token1 pool → IsAtRest ledger → IsAtRest made.ledger
-  skim_rest apart rest = rest_kept ledger made.ledger rest skim_keeps (skim_sound ledger pool to made apart rest.sound is)
+  pub skim_kept : pool_token0 pool ≢ pool_token1 pool → Kept ledger made.ledger
+  skim_kept apart =
+      kept_at pool ledger made.ledger skimmed.was skimmed.was skim_only skimmed.found.there skimmed.found.free
+      (ap (λ (ps : Pairs). pair_of ps pool) (both_pairs pool _ _ ledger made.ledger skimmed.sent) ∙ skimmed.found.there) skimmed.found.free (λ sound. skim_sound ledger pool to made apart sound is)

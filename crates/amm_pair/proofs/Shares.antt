@@ -1,10 +1,8 @@
 -- What an accepted mint leaves.
-
-use Rattle.std.proofs.Common.{length, ◌≡◌, ◌≢◌, ◌≤◌, ◌<◌, ◌+◌, ◌-◌, ◌*◌, ◌==◌, ℕ, Bool, true, false, List, Some, Ok, refl, sym, ap, ◌∙◌, inl, inr, subst, arith}
+use Rattle.std.proofs.Common.{◌≡◌, ◌≢◌, ◌≤◌, ◌<◌, ◌+◌, ◌-◌, ◌*◌, ◌==◌, ℕ, Bool, true, false, List, Ok, refl, sym, ap, ◌∙◌, inl, inr, subst, arith}
 use Rattle.std.specs.Prelude.{if◌then◌else◌}
-use Rattle.std.specs.Map.{keys_of}
 use Rattle.std.proofs.lemmas.Bool.Decides.{nat_tests}
-use Rattle.std.proofs.lemmas.Bool.{eqb-true}
+use Rattle.std.proofs.lemmas.Bool.{both_ways, eqb-true, eq-eqb}
 use Rattle.amm_names.specs.declared.holder.Holder.{Holder}
 use Rattle.amm_names.specs.declared.holder.Holder.TheVariants as holders
 use Rattle.amm_names.specs.declared.holder.Asset.{Asset}
@@ -16,17 +14,18 @@ use Rattle.amm_names.specs.Pools.{pool_token0, pool_token1}
 use Rattle.amm_model.specs.Formulas.{IsBacked, fee_shares_of, later_shares_of}
 use Rattle.amm_model.specs.Root.{root_of}
 use Rattle.amm_model.specs.Ledger.{Ledger, Made, Pairs, balance, total, total_limit, added, pair_of, with_pair}
-use Rattle.amm_model.specs.Pools.{asset0, asset1, held0, held1, supply, first_locked, reserve_limit}
-use Rattle.amm_model.specs.Operations.{free_pair, renewed, updated, is_nobody, fee_due, with_fee, after_fee, with_product, shares_for, with_shares, minted, mint, PerShareKept}
-use Rattle.amm_model.specs.Sound.{IsAtRest, IsSmall, IsCovered, IsSoundPair, IsSound}
+use Rattle.amm_model.specs.Pools.{asset0, asset1, held0, held1, supply, first_locked}
+use Rattle.amm_model.specs.Operations.{free_pair, updated, is_nobody, fee_due, with_fee, after_fee, with_product, shares_for, with_shares, minted, mint, PerShareKept}
+use Rattle.amm_model.specs.Sound.{IsCovered, IsSoundPair, IsSound}
 use Rattle.amm_model.proofs.LedgerLemmas.{balance_within_total}
 use Rattle.amm_model.proofs.Guards.{given, not_refused, same_answer}
-use Rattle.amm_model.proofs.Names.{some_there, one_value, pair_of-set_here}
 use Rattle.amm_model.proofs.Balances.{Rest, rest_then, rest_same, Added, added_added}
-use Rattle.amm_model.proofs.Soundness.{OnlyAt, only_at_then, with_pair_only, share_not_token}
-use Rattle.amm_model.proofs.Keeping.{Keeps, keeps_at, SameSettings, only_same_settings, rest_kept}
-use Rattle.amm_pair.proofs.Operations.{Found, free_found, Renewed, updated_renewed, renewed_small, settled_sound, IsKept}
-use Rattle.amm_pair.proofs.Minting.{fee_within, no_fee, square_within, square_small, minted_square, locked_first, later_product}
+use Rattle.amm_model.proofs.Soundness.{OnlyAt, rest_only, share_not_token}
+use Rattle.amm_model.proofs.Laters.{Kept}
+use Rattle.amm_pool.proofs.Products.{fee_within, no_fee, later_product}
+use Rattle.amm_pair.proofs.Operations.{Found, free_found, Renewed, updated_renewed, IsKept}
+use Rattle.amm_pair.proofs.Minting.{square_within, minted_square, locked_first}
+use Rattle.amm_pair.proofs.Ending.{Ended, ended_kept, ended_sound, ended_per_share}
 
 -- the squared supply after a mint is within the product of what the pool has
 shares_square : (l : Ledger) (pool : List ℕ) (pair : PairRecord) (s : ℕ) → pair.r0 ≤ held0 l pool → pair.r1 ≤ held1 l pool → s * s ≤ pair.r0 * pair.r1
@@ -94,65 +93,15 @@ shares_by l pool to before n false e =
     let more = added_added l (assets.Share pool) to n in
     let same : n ≡ n + 0 = omega arith in (
       subst (λ (k : ℕ). Grown pool k l (added l (assets.Share pool) to n)) same (added_grown pool to n l _ more),
-      λ none. absurd (differ (before == 0) e (is_zero before none)),
+      λ none. absurd (both_ways (before == 0) e (eq-eqb before 0 none)),
     )
-  where
-    is_zero : (k : ℕ) → k ≡ 0 → (k == 0) ≡ true
-    is_zero k none = ap (λ (j : ℕ). j == 0) none
-
-    differ : (b : Bool) → b ≡ false → b ≡ true → ⊥
-    differ b x y = cc
 
 shares_shared : (l : Ledger) (pool : List ℕ) (to : Holder) (before n : ℕ) → Shared pool before n l (with_shares l pool to before n)
 unfolding with_shares
 shares_shared l pool to before n = let both = shares_by l pool to before n (before == 0) refl in record { grown = both.0; first = both.1 }
 
 pub grown_only : (pool : List ℕ) (n : ℕ) (old new : Ledger) → Grown pool n old new → OnlyAt pool old new
-grown_only pool n old new g = record {
-  tokens = g.rest.tokens;
-  time = g.rest.time;
-  fee_to = g.rest.fee_to;
-  setter = g.rest.setter;
-  quotes = g.rest.quotes;
-  observations = g.rest.observations;
-  names = ap keys_of g.rest.pairs;
-  count = ap length g.rest.pairs;
-  pairs = λ other apart. ap (λ (ps : Pairs). pair_of ps other) g.rest.pairs;
-  held = λ q other apart. g.grown q (holders.Pool other);
-  zero = λ q. g.grown q holders.Zero;
-  totals = λ q apart. g.totals q apart;
-}
-
--- the record at the end of a mint or a burn
-pub record Closed (s b0 b1 : ℕ) (final : PairRecord) : Type 0 where
-  pub small : IsSmall final
-  pub r0 : final.r0 ≡ b0
-  pub r1 : final.r1 ≡ b1
-  pub backed : IsBacked s final.r0 final.r1 final.k_last
-
-pub closed : (nobody : Bool) (pair : PairRecord) (time s b0 b1 : ℕ) → IsSmall pair → b0 ≤ reserve_limit → b1 ≤ reserve_limit → s * s ≤ b0 * b1
-    → Closed s b0 b1 (with_product nobody (renewed (after_fee nobody pair) time b0 b1))
-closed true pair time s b0 b1 small s0 s1 square =
-    let fine = renewed_small pair time b0 b1 small s0 s1 in
-    record {
-      small = record { r0 = fine.r0; r1 = fine.r1; last = fine.last; acc0 = fine.acc0; acc1 = fine.acc1 };
-      r0 = refl;
-      r1 = refl;
-      backed = record { backed = square; kept = λ some. absurd (some refl) };
-    }
-closed false pair time s b0 b1 small s0 s1 square =
-    let fine = renewed_small pair time b0 b1 small s0 s1 in
-    record {
-      small = record { r0 = fine.r0; r1 = fine.r1; last = fine.last; acc0 = fine.acc0; acc1 = fine.acc1 };
-      r0 = refl;
-      r1 = refl;
-      backed = record { backed = square; kept = λ some. (square, omega arith) };
-    }
-
--- and its lock is as it was
-pub same_lock : (nobody : Bool) (pair : PairRecord) (time b0 b1 : ℕ) → (with_product nobody (renewed (after_fee nobody pair) time b0 b1)).locked ≡ pair.locked
-same_lock true pair time b0 b1 = refl
-same_lock false pair time b0 b1 = refl
+grown_only pool n old new g = rest_only pool old new g.rest (λ q p apart. g.grown q p) g.totals
 
 pub fee_due_within : (l : Ledger) (pool : List ℕ) (pair : PairRecord) → IsBacked (supply l pool) pair.r0 pair.r1 pair.k_last
     → (supply l pool + fee_due l pool pair) * (supply l pool + fee_due l pool pair) ≤ pair.r0 * pair.r1
@@ -254,28 +203,17 @@ module _ (l : Ledger) (pool : List ℕ) (to : Holder) (made : Made MintReceipt) 
   grown = subst (λ (k : Ledger). Grown pool (fee + (n + locked_first s)) l k) (sym m.mid_is)
       (grown_then pool fee (n + locked_first s) l (with_fee l pool fee) (minted l pool to fee n) (fee_grown l pool fee) shared.grown)
 
-  abbrev final : PairRecord
-  final = with_product (is_nobody l.fee_to) (renewed (after_fee (is_nobody l.fee_to) m.was) m.mid.time (held0 m.mid pool) (held1 m.mid pool))
-
-  made_is : made.ledger ≡ with_pair m.mid pool final
-  made_is = m.after ∙ ap (λ (p : PairRecord). with_pair m.mid pool (with_product (is_nobody l.fee_to) p)) m.renewed.is
-
-  still : pair_of m.mid.pairs pool ≡ Some m.was
-  still = ap (λ (ps : Pairs). pair_of ps pool) grown.rest.pairs ∙ m.found.there
-
-  written : pair_of made.ledger.pairs pool ≡ Some final
-  written = ap (λ (k : Ledger). pair_of k.pairs pool) made_is ∙ pair_of-set_here m.mid.pairs pool final (some_there (pair_of m.mid.pairs pool) m.was still)
-
-  mint_only : OnlyAt pool l made.ledger
-  mint_only = subst (OnlyAt pool l) (sym made_is)
-      (only_at_then pool l m.mid (with_pair m.mid pool final) (grown_only pool (fee + (n + locked_first s)) l m.mid grown) (with_pair_only m.mid pool final (some_there (pair_of m.mid.pairs pool) m.was still)))
-
-  pub mint_keeps : Keeps l made.ledger
-  mint_keeps = keeps_at pool l made.ledger m.was final mint_only m.found.there m.found.free written
-      (same_lock (is_nobody l.fee_to) m.was m.mid.time (held0 m.mid pool) (held1 m.mid pool) ∙ m.found.free)
-
-  pub mint_same_settings : SameSettings l made.ledger
-  mint_same_settings = only_same_settings pool l made.ledger mint_only
+  abbrev ending : Ended l pool made.ledger
+  ending = record {
+    was = m.was;
+    found = m.found;
+    mid = m.mid;
+    only = grown_only pool (fee + (n + locked_first s)) l m.mid grown;
+    still = ap (λ (ps : Pairs). pair_of ps pool) grown.rest.pairs ∙ m.found.there;
+    now = m.now;
+    renewed = m.renewed;
+    after = m.after;
+  }
 
   module _ (sound : IsSound l) where
     before : IsSoundPair l pool m.was
@@ -306,29 +244,18 @@ module _ (l : Ledger) (pool : List ℕ) (to : Holder) (made : Made MintReceipt) 
       | inr some ↦ inr (omega (arith, grown.grown (assets.Share pool) holders.Zero))
     ]
 
-    final_closed : Closed (supply m.mid pool) (held0 m.mid pool) (held1 m.mid pool) final
-    final_closed = closed (is_nobody l.fee_to) m.was m.mid.time (supply m.mid pool) (held0 m.mid pool) (held1 m.mid pool) before.small m.renewed.small0 m.renewed.small1 square
-
     pub mint_sound : IsSound made.ledger
-    mint_sound = subst IsSound (sym made_is)
-        (settled_sound pool l m.mid m.was final sound m.found.there (grown_only pool (fee + (n + locked_first s)) l m.mid grown) still
-        (omega (arith, square_small (supply m.mid pool) (held0 m.mid pool) (held1 m.mid pool) square m.renewed.small0 m.renewed.small1))
-        final_closed.small final_closed.r0 final_closed.r1 final_closed.backed kept)
+    mint_sound = ended_sound l pool made.ledger ending sound square kept
+
+    product : 0 < s → (m.was.r0 * m.was.r1) * (supply m.mid pool * supply m.mid pool) ≤ (held0 m.mid pool * held1 m.mid pool) * (s * s)
+    product pos =
+        subst (λ (k : ℕ). (m.was.r0 * m.was.r1) * (k * k) ≤ (held0 m.mid pool * held1 m.mid pool) * (s * s)) (sym whole)
+        (subst (λ (k : ℕ). (m.was.r0 * m.was.r1) * ((s + (n + locked_first s)) * (s + (n + locked_first s))) ≤ (k * held1 m.mid pool) * (s * s)) (sym same0)
+        (subst (λ (k : ℕ). (m.was.r0 * m.was.r1) * ((s + (n + locked_first s)) * (s + (n + locked_first s))) ≤ (held0 l pool * k) * (s * s)) (sym same1)
+        (shares_product l pool m.was s pos covers.first covers.second)))
 
     pub mint_per_share : PerShareKept l made.ledger pool made.answer.fee_shares
-    mint_per_share was now at_old at_new pos =
-        let e : m.was ≡ was = one_value (pair_of l.pairs pool) m.was was m.found.there at_old in
-        let f : final ≡ now = one_value (pair_of made.ledger.pairs pool) final now written at_new in
-        let t : supply made.ledger pool ≡ s + (n + locked_first s) = ap (λ (k : Ledger). supply k pool) made_is ∙ whole in
-        let product = shares_product l pool m.was s (subst (λ (k : ℕ). 0 < supply l pool + k) m.fee pos) covers.first covers.second in
-        let b0 : final.r0 ≡ held0 l pool = final_closed.r0 ∙ same0 in
-        let b1 : final.r1 ≡ held1 l pool = final_closed.r1 ∙ same1 in
-        subst (λ (p : PairRecord). (p.r0 * p.r1) * (supply made.ledger pool * supply made.ledger pool) ≤ (now.r0 * now.r1) * ((supply l pool + made.answer.fee_shares) * (supply l pool + made.answer.fee_shares))) e
-        (subst (λ (p : PairRecord). (m.was.r0 * m.was.r1) * (supply made.ledger pool * supply made.ledger pool) ≤ (p.r0 * p.r1) * ((supply l pool + made.answer.fee_shares) * (supply l pool + made.answer.fee_shares))) f
-        (subst (λ (k : ℕ). (m.was.r0 * m.was.r1) * (supply made.ledger pool * supply made.ledger pool) ≤ (final.r0 * final.r1) * ((supply l pool + k) * (supply l pool + k))) (sym m.fee)
-        (subst (λ (k : ℕ). (m.was.r0 * m.was.r1) * (k * k) ≤ (final.r0 * final.r1) * (s * s)) (sym t)
-        (subst (λ (k : ℕ). (m.was.r0 * m.was.r1) * ((s + (n + locked_first s)) * (s + (n + locked_first s))) ≤ (k * final.r1) * (s * s)) (sym b0)
-        (subst (λ (k : ℕ). (m.was.r0 * m.was.r1) * ((s + (n + locked_first s)) * (s + (n + locked_first s))) ≤ (held0 l pool * k) * (s * s)) (sym b1) product)))))
+    mint_per_share = subst (λ (k : ℕ). PerShareKept l made.ledger pool k) (sym m.fee) (ended_per_share l pool made.ledger ending sound square fee product)
 
-  pub mint_rest : IsAtRest l → IsAtRest made.ledger
-  mint_rest rest = rest_kept l made.ledger rest mint_keeps (mint_sound rest.sound)
+  pub mint_kept : Kept l made.ledger
+  mint_kept = ended_kept l pool made.ledger ending mint_sound

@@ -1,7 +1,6 @@
 -- A loan and a swap as the code takes them are the loan and the swap.
-use Rattle.std.proofs.Common.{◌≡◌, ℕ, nat_le, nat_lt, nat_eq, ◌==◌, ◌&&◌, ◌||◌, not, Bool, true, false, cond, List, [], ◌∷◌, Option, Some, None, IsSome, Result, Ok, Err, refl, sym, ap, ◌∙◌}
+use Rattle.std.proofs.Common.{◌≡◌, ℕ, nat_le, nat_lt, ◌==◌, ◌&&◌, ◌||◌, not, Bool, true, false, List, Some, Result, Ok, Err, refl, sym, ap, ◌∙◌}
 use Rattle.std.specs.Prelude.{if◌then◌else◌}
-use Rattle.std.specs.Cmp.Lexicographic.{pointwise}
 use Rattle.amm_names.specs.declared.holder.Holder.{Holder}
 use Rattle.amm_names.specs.declared.holder.Holder.TheVariants as holders
 use Rattle.amm_names.specs.declared.holder.Asset.{Asset}
@@ -17,6 +16,7 @@ use Rattle.amm_model.specs.Operations.{free_pair, renewed, updated_to, locked, u
 use Rattle.amm_model.proofs.Guards.{given, not_refused, same_answer}
 use Rattle.amm_model.proofs.Names.{some_there, pair_of-set_here}
 use Rattle.amm_model.proofs.Transfers.{transfer_sent}
+use Rattle.amm_state.proofs.BookLemmas.{set_pair-twice}
 use Rattle.amm_pair.specs.Straight.{both_sent, lendable, lend_from, lend_straight, settled, swap_straight}
 use Rattle.amm_pair.proofs.Operations.{free_found}
 
@@ -30,15 +30,6 @@ transfer_beside l ps a f t n = by (nat_lt (balance l a f) n) (same_holder f t)
     by true c = refl
     by false true = refl
     by false false = refl
-
--- the last record that is written stays
-set_twice : (pairs : Pairs) (pool : List ℕ) (x y : PairRecord) → set_pair (set_pair pairs pool x) pool y ≡ set_pair pairs pool y
-set_twice [] pool x y = refl
-set_twice (e ∷ pairs) pool x y =
-    elim (pointwise nat_eq pool e.0) as (λ b. pointwise nat_eq pool e.0 ≡ b → set_pair (cond b ((e.0, x) ∷ pairs) (e ∷ set_pair pairs pool x)) pool y ≡ cond b ((e.0, y) ∷ pairs) (e ∷ set_pair pairs pool y)) [
-      | true ↦ λ p. rw p refl
-      | false ↦ λ p. rw p (ap (λ (rest : Pairs). e ∷ rest) (set_twice pairs pool x y))
-    ] refl
 
 -- tests that refuse the same, and ends that are the same
 ends_same : (t1 t2 u0 u1 : Bool) (m n : PairRecord) (f g : PairRecord → Outcome SwapReceipt) → f m ≡ g n
@@ -63,13 +54,6 @@ tests_apart false false false raw next pair same = same
 bind_apart : {A B C : Type 0} (r : Result A Refusal) (f : A → Result B Refusal) (g : B → Result C Refusal) → ((r >>= f) >>= g) ≡ (r >>= λ x. f x >>= g)
 bind_apart (Ok x) f g = refl
 bind_apart (Err why) f g = refl
-
-kept_past : (test : Bool) (why : Refusal) (next : Unit {0} → Result PairRecord Refusal) (made : PairRecord) → (refuse_if test why >>= next) ≡ Ok made → next tt ≡ Ok made
-kept_past test why next made is = (not_refused test why next made is).1
-
-found_first : (first : Result PairRecord Refusal) (next : PairRecord → Result PairRecord Refusal) (made : PairRecord) → (first >>= next) ≡ Ok made → (was : PairRecord) × (first ≡ Ok was) × (next was ≡ Ok made)
-found_first (Ok x) next made is = (x, refl, is)
-found_first (Err why) next made is = cc
 
 -- the return of a loan, where the record is known
 pub give_back_is : (ledger : Ledger) (pool : List ℕ) (out0 out1 : ℕ) (pair : PairRecord) → pair_of ledger.pairs pool ≡ Some pair → give_back ledger pool out0 out1 ≡ settled ledger pool pair out0 out1
@@ -97,7 +81,7 @@ module _ (ledger : Ledger) (pool : List ℕ) (out0 out1 : ℕ) (to : Holder) whe
       (renewed (locked pair) sent.time (held0 sent pool) (held1 sent pool)) (renewed pair sent.time (held0 sent pool) (held1 sent pool))
       (λ new. Ok (record { ledger = record sent { pairs = set_pair (set_pair ledger.pairs pool (locked pair)) pool (unlocked new) }; answer = paid }))
       (λ new. Ok (record { ledger = with_pair sent pool (unlocked new); answer = paid }))
-      (ap (λ (ps : Pairs). Ok (record { ledger = record sent { pairs = ps }; answer = paid })) (set_twice ledger.pairs pool (locked pair) now ∙ ap (λ (ps : Pairs). set_pair ps pool now) (sym still))))
+      (ap (λ (ps : Pairs). Ok (record { ledger = record sent { pairs = ps }; answer = paid })) (set_pair-twice ledger.pairs pool (locked pair) now ∙ ap (λ (ps : Pairs). set_pair ps pool now) (sym still))))
 
   -- both outputs are sent the same whatever the pairs are
   both_beside : (l : Ledger) (ps : Pairs) → both_sent (record l { pairs = ps }) pool out0 out1 to ≡ (both_sent l pool out0 out1 to >>= λ m. done (record m.ledger { pairs = ps }))
@@ -153,12 +137,12 @@ module _ (ledger : Ledger) (pool : List ℕ) (out0 out1 : ℕ) (to : Holder) whe
   lendable_there : (pair : PairRecord) → lendable ledger pool out0 out1 to ≡ Ok pair → pair_of ledger.pairs pool ≡ Some pair
   unfolding lendable
   lendable_there pair is =
-      let first = found_first (free_pair ledger pool) _ pair is in
-      let was : PairRecord = first.0 in
-      let asked = kept_past (out0 == 0 && out1 == 0) code.InsufficientOutputAmount _ pair first.2 in
-      let enough = kept_past (nat_le was.r0 out0 || nat_le was.r1 out1) code.InsufficientLiquidity _ pair asked in
-      let allowed = kept_past (is_token_of pool to) code.InvalidTo _ pair enough in
-      (free_found ledger pool was first.1).there ∙ ap Some (same_answer was pair allowed)
+      let first = given (free_pair ledger pool) _ pair is in
+      let was : PairRecord = first.value in
+      let asked = not_refused (out0 == 0 && out1 == 0) code.InsufficientOutputAmount _ pair first.after in
+      let enough = not_refused (nat_le was.r0 out0 || nat_le was.r1 out1) code.InsufficientLiquidity _ pair asked.1 in
+      let allowed = not_refused (is_token_of pool to) code.InvalidTo _ pair enough.1 in
+      (free_found ledger pool was first.was).there ∙ ap Some (same_answer was pair allowed.1)
 
   -- what follows the tests, once the pair was found
   by_found : (r : Result PairRecord Refusal) → lendable ledger pool out0 out1 to ≡ r → (r >>= λ pair. lend_from ledger pool pair out0 out1 to) >>= (λ lent. give_back lent.ledger pool out0 out1) ≡ (r >>= straight_by)

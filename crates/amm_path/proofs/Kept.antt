@@ -1,11 +1,10 @@
--- What each accepted call of the router keeps: the locks, what the zero holder has, the totals of tokens, the settings, and soundness.
-use Rattle.std.proofs.Common.{◌≡◌, ◌≢◌, ℕ, nat_lt, Bool, true, false, List, [], ◌∷◌, Option, Some, None, Ok, inl, inr, sym, ap, ◌∙◌, subst}
+-- What each accepted call of the router keeps.
+use Rattle.std.proofs.Common.{◌≡◌, ◌≢◌, ℕ, nat_lt, Bool, true, false, List, [], ◌∷◌, Some, Ok, inl, inr, sym, ap, ◌∙◌, subst}
 use Rattle.std.specs.Prelude.{IsTrue, if◌then◌else◌, ok_or}
 use Rattle.std.specs.Option.{is_some}
 use Rattle.std.specs.Str.{bytes_eq}
 use Rattle.amm_names.specs.declared.holder.Holder.{Holder}
 use Rattle.amm_names.specs.declared.holder.Holder.TheVariants as holders
-use Rattle.amm_names.specs.declared.holder.Asset.{Asset}
 use Rattle.amm_names.specs.declared.holder.Asset.TheVariants as assets
 use Rattle.amm_names.specs.Names.{is_token_name}
 use Rattle.amm_model.specs.Swap.{IsFee}
@@ -17,51 +16,19 @@ use Rattle.amm_model.specs.declared.trade.Trade.{Trade}
 use Rattle.amm_model.specs.declared.path.RoutePath.{RoutePath}
 use Rattle.amm_model.specs.declared.command.AddWant.{AddWant}
 use Rattle.amm_model.specs.declared.command.RemoveWant.{RemoveWant}
-use Rattle.amm_model.specs.declared.fault.Refusal.{Refusal}
 use Rattle.amm_model.specs.declared.fault.Refusal.TheVariants as code
 use Rattle.amm_model.specs.Fits.{FitsAdd, FitsRemove}
 use Rattle.amm_model.specs.Ledger.{Ledger, Outcome, Made, pair_of, transfer}
 use Rattle.amm_model.specs.Operations.{if_there, swap, mint, burn}
 use Rattle.amm_model.specs.Factory.{create}
 use Rattle.amm_model.specs.Router.{Plan, seen_from, side_of, out_along, in_along, amounts_of, asset_in, receiver_of, swap_along, pay_first, trade_along, last_of, exact_in, exact_out, with_pool, matched, add, paid_in_order, remove}
-use Rattle.amm_model.specs.Sound.{IsSound, IsAtRest}
-use Rattle.amm_model.specs.Later.{Later}
-use Rattle.amm_model.proofs.Guards.{given, not_refused, same_answer}
+use Rattle.amm_model.proofs.Guards.{given, not_refused, same_answer, was_some}
 use Rattle.amm_model.proofs.Names.{same_name_itself}
-use Rattle.amm_model.proofs.PlainSound.{transfer_sound}
-use Rattle.amm_model.proofs.Keeping.{Keeps, keeps_then, keeps_same, SameSettings, same_settings, same_settings_then, rest_kept, transfer_keeps, transfer_same_settings}
-use Rattle.amm_model.proofs.Laters.{later_of}
-use Rattle.amm_pair.proofs.Lending.{swap_sound, swap_keeps, swap_same_settings}
-use Rattle.amm_pair.proofs.Shares.{mint_sound, mint_keeps, mint_same_settings}
-use Rattle.amm_pair.proofs.Burning.{burn_sound, burn_keeps, burn_same_settings}
-use Rattle.amm_factory.proofs.Creation.{tokens_between, create_sound, create_keeps, create_same_settings}
-
-pub record Kept (old new : Ledger) : Type 0 where
-  pub keeps : Keeps old new
-  pub settings : SameSettings old new
-  pub sound : IsSound old → IsSound new
-
-pub kept_same : (a : Ledger) → Kept a a
-kept_same a = record { keeps = keeps_same a; settings = same_settings a; sound = λ sound. sound }
-
-pub kept_then : (a b c : Ledger) → Kept a b → Kept b c → Kept a c
-kept_then a b c first second = record {
-  keeps = keeps_then a b c first.keeps second.keeps;
-  settings = same_settings_then a b c first.settings second.settings;
-  sound = λ sound. second.sound (first.sound sound);
-}
-
--- a ledger at rest stays at rest
-pub kept_rest : (old new : Ledger) → Kept old new → IsAtRest old → IsAtRest new
-kept_rest old new kept rest = rest_kept old new rest kept.keeps (kept.sound rest.sound)
-
--- within a loan too
-pub kept_later : (old new : Ledger) → Kept old new → Later old new
-kept_later old new kept = later_of old new kept.keeps kept.settings kept.sound
-
-transfer_kept : (old : Ledger) (asset : Asset) (user : List ℕ) (to : Holder) (n : ℕ) (made : Made (Unit {0})) → transfer old asset (holders.User user) to n ≡ Ok made → Kept old made.ledger
-transfer_kept old asset user to n made is =
-    record { keeps = transfer_keeps old asset user to n made is; settings = transfer_same_settings old asset user to n made is; sound = transfer_sound old asset user to n made is }
+use Rattle.amm_model.proofs.Laters.{Kept, kept_same, kept_then, transfer_kept}
+use Rattle.amm_pair.proofs.Lending.{swap_kept}
+use Rattle.amm_pair.proofs.Shares.{mint_kept}
+use Rattle.amm_pair.proofs.Burning.{burn_kept}
+use Rattle.amm_factory.proofs.Creation.{tokens_between, create_kept}
 
 -- ---- swaps along a path
 
@@ -72,11 +39,7 @@ swap_along_kept [] ledger to made is =
 swap_along_kept (trade ∷ later) ledger to made is =
     let first = given (swap ledger trade.pool (if trade.zero_in then 0 else trade.output) (if trade.zero_in then trade.output else 0) (receiver_of later to)) _ made is in
     kept_then ledger first.value.ledger made.ledger
-    (record {
-      keeps = swap_keeps ledger trade.pool (if trade.zero_in then 0 else trade.output) (if trade.zero_in then trade.output else 0) (receiver_of later to) first.value first.was;
-      settings = swap_same_settings ledger trade.pool (if trade.zero_in then 0 else trade.output) (if trade.zero_in then trade.output else 0) (receiver_of later to) first.value first.was;
-      sound = λ sound. swap_sound ledger trade.pool (if trade.zero_in then 0 else trade.output) (if trade.zero_in then trade.output else 0) (receiver_of later to) first.value sound first.was;
-    })
+    (swap_kept ledger trade.pool (if trade.zero_in then 0 else trade.output) (if trade.zero_in then trade.output else 0) (receiver_of later to) first.value first.was)
     (swap_along_kept later first.value.ledger to made first.after)
 
 pay_first_kept : (ledger : Ledger) (actor : List ℕ) (input : ℕ) (trades : List Trade) (made : Made (Unit {0})) → pay_first ledger actor input trades ≡ Ok made → Kept ledger made.ledger
@@ -122,8 +85,7 @@ record FitsPair (a b : List ℕ) (fee : ℕ) : Type 0 where
 module _ (ledger : Ledger) (a b : List ℕ) (fee : ℕ) (made : Made (List ℕ)) where
   creates : (there : Bool) (pool : List ℕ) → (◌≡◌ {A = Outcome (List ℕ)} (if there then Ok (record { ledger = ledger; answer = pool }) else create ledger a b fee) (Ok made)) → FitsPair a b fee → Kept ledger made.ledger
   creates true pool is fits = subst (λ (m : Made (List ℕ)). Kept ledger m.ledger) (same_answer (record { ledger = ledger; answer = pool }) made is) (kept_same ledger)
-  creates false pool is fits =
-      record { keeps = create_keeps ledger a b fee made is; settings = create_same_settings ledger a b fee made is; sound = create_sound ledger a b fee made fits.first fits.second fits.at_a_fee is }
+  creates false pool is fits = create_kept ledger a b fee made fits.first fits.second fits.at_a_fee is
 
   with_pool_kept : FitsPair a b fee → with_pool ledger a b fee ≡ Ok made → Kept ledger made.ledger
   unfolding with_pool
@@ -146,15 +108,7 @@ add_kept ledger actor want to deadline made fits is =
     (kept_then ledger there.value.ledger minted.value.ledger (with_pool_kept ledger want.a want.b want.fee there.value (record { first = fits.a; second = fits.b; at_a_fee = fits.fee }) there.was)
     (kept_then there.value.ledger first.value.ledger minted.value.ledger (transfer_kept there.value.ledger (assets.Token want.a) actor (holders.Pool side.value.pool) amounts.value.a first.value first.was)
     (kept_then first.value.ledger second.value.ledger minted.value.ledger (transfer_kept first.value.ledger (assets.Token want.b) actor (holders.Pool side.value.pool) amounts.value.b second.value second.was)
-    (record {
-      keeps = mint_keeps second.value.ledger side.value.pool to minted.value minted.was;
-      settings = mint_same_settings second.value.ledger side.value.pool to minted.value minted.was;
-      sound = λ sound. mint_sound second.value.ledger side.value.pool to minted.value minted.was sound;
-    }))))
-
-was_named : (o : Option (List ℕ)) (why : Refusal) (pool : List ℕ) → ok_or o why ≡ Ok pool → o ≡ Some pool
-was_named None why pool is = cc
-was_named (Some x) why pool is = ap Some (same_answer x pool is)
+    (mint_kept second.value.ledger side.value.pool to minted.value minted.was))))
 
 side_named : (ledger : Ledger) (a b : List ℕ) (fee : ℕ) (side : Side) → side_of ledger a b fee ≡ Ok side → pool_between a b fee ≡ Some side.pool
 unfolding side_of
@@ -162,7 +116,7 @@ side_named ledger a b fee side is =
     let named = given (ok_or (pool_between a b fee) code.Identical) _ side is in
     let pair = given (if_there (pair_of ledger.pairs named.value)) _ side named.after in
     let e = same_answer (seen_from named.value (is_before a b) pair.value) side pair.after in
-    was_named (pool_between a b fee) code.Identical named.value named.was ∙ ap (λ (s : Side). Some s.pool) e
+    was_some (pool_between a b fee) code.Identical named.value named.was ∙ ap (λ (s : Side). Some s.pool) e
 
 not_with_itself : (a : List ℕ) (fee : ℕ) (pool : List ℕ) → pool_between a a fee ≡ Some pool → ⊥
 unfolding pool_between
@@ -189,8 +143,4 @@ remove_kept ledger actor want to deadline made fits is =
     let apart = sides_apart want.a want.b want.fee side.value.pool (record { first = fits.a; second = fits.b; at_a_fee = fits.fee }) (side_named ledger want.a want.b want.fee side.value side.was) in
     subst (λ (m : Made RemoveReceipt). Kept ledger m.ledger) e
     (kept_then ledger sent.value.ledger burnt.value.ledger (transfer_kept ledger (assets.Share side.value.pool) actor (holders.Pool side.value.pool) want.shares sent.value sent.was)
-    (record {
-      keeps = burn_keeps sent.value.ledger side.value.pool to burnt.value burnt.was;
-      settings = burn_same_settings sent.value.ledger side.value.pool to burnt.value burnt.was;
-      sound = λ sound. burn_sound sent.value.ledger side.value.pool to burnt.value burnt.was apart sound;
-    }))
+    (burn_kept sent.value.ledger side.value.pool to burnt.value burnt.was apart))

@@ -2,7 +2,8 @@
 //! and the price accumulators.
 //!
 //! Each call is proved equal to its formula over unbounded numbers, within the stated widths:
-//! reserves below 2^48, balances and amounts below 2^52. None takes memory and none refuses.
+//! reserves below 2^48, balances and amounts below 2^52, fees of 1, 3 or 10 thousandths. None takes
+//! memory and none refuses.
 #![tactic(auto)]
 
 mod laws;
@@ -35,7 +36,8 @@ pub fn amount_out(fee: u8, x: u64, rin: u64, rout: u64) -> u64
 }
 
 /// What a pool at this fee asks for an output of `y`: the least input that the rule of a swap
-/// admits, or one more. `y` is 1 to less than `rout`, the reserves are 1 to 2^48-1.
+/// admits, or one more. `y` is 1 to less than `rout`, the reserves are 1 to 2^48-1. The answer may
+/// be above the limit of amounts, and above 64 bits.
 pub fn amount_in(fee: u8, y: u64, rin: u64, rout: u64) -> u128
     requires fee { IsFee fee }
     requires output { (1 ≤ y) × (y < rout) }
@@ -47,7 +49,8 @@ pub fn amount_in(fee: u8, y: u64, rin: u64, rout: u64) -> u128
     mul_div(1000 * rin, y, (weight(fee) * (rout - y)) as u128) + 1
 }
 
-/// The amount of the other token that matches `a` at the reserves.
+/// The amount of the other token that matches `a` at the reserves, rounded down (library, `quote`).
+/// `a` is 1 to 2^52-1, the reserves are 1 to 2^48-1. The answer may be above 64 bits.
 pub fn quote(a: u64, ra: u64, rb: u64) -> u128
     requires amount { (1 ≤ a) × (a < 2 ^ 52) }
     requires reserve_a { (1 ≤ ra) × (ra < 2 ^ 48) }
@@ -57,7 +60,8 @@ pub fn quote(a: u64, ra: u64, rb: u64) -> u128
     mul_div(a, rb, ra as u128)
 }
 
-/// Whether the balances, less the fee on what came in, keep the product of the reserves.
+/// Whether the balances, less the fee on what came in, keep the product of the reserves: the rule of
+/// a swap (core, `swap`). No input is above its balance.
 pub fn admits(fee: u8, r0: u64, r1: u64, b0: u64, b1: u64, in0: u64, in1: u64) -> bool
     requires fee { IsFee fee }
     requires reserves { (r0 < 2 ^ 48) × (r1 < 2 ^ 48) }
@@ -71,7 +75,8 @@ pub fn admits(fee: u8, r0: u64, r1: u64, b0: u64, b1: u64, in0: u64, in1: u64) -
     left0 as u128 * left1 as u128 >= 1_000_000 * r0 as u128 * r1 as u128
 }
 
-/// The root of the product of the first amounts.
+/// The root of the product of the first amounts, rounded down: all shares of the first mint, those
+/// that are locked among them.
 pub fn first_root(a0: u64, a1: u64) -> u64
     requires { (a0 < 2 ^ 52) × (a1 < 2 ^ 52) }
     ensures value { result ≡ root_of (a0 * a1) }
@@ -80,7 +85,8 @@ pub fn first_root(a0: u64, a1: u64) -> u64
     root(a0 as u128 * a1 as u128)
 }
 
-/// The shares for amounts brought to a pair that has shares.
+/// The shares for amounts brought to a pair that has shares: those of the side that brings fewer,
+/// rounded down (core, `mint`). `supply` is at least 1, its square at most the product of the reserves.
 pub fn later_shares(a0: u64, a1: u64, supply: u64, r0: u64, r1: u64) -> u64
     requires amounts { (a0 < 2 ^ 52) × (a1 < 2 ^ 52) }
     requires supply { (1 ≤ supply) × (supply * supply ≤ r0 * r1) }
@@ -92,7 +98,8 @@ pub fn later_shares(a0: u64, a1: u64, supply: u64, r0: u64, r1: u64) -> u64
     by0.min(by1) as u64
 }
 
-/// The part of a balance that the shares stand for.
+/// The part of a balance that the shares stand for, rounded down (core, `burn`). `supply` is 1 to
+/// 2^48-1, and `shares` at most that.
 pub fn burn_amount(shares: u64, balance: u64, supply: u64) -> u64
     requires part { shares ≤ supply }
     requires supply { (1 ≤ supply) × (supply < 2 ^ 48) }
@@ -103,7 +110,8 @@ pub fn burn_amount(shares: u64, balance: u64, supply: u64) -> u64
 }
 
 /// The protocol's shares: one sixth of the growth of the root of the product since the last mint
-/// or burn; 0 where `k_last` is 0 or the root has not grown.
+/// or burn, rounded down (core, `_mintFee`); 0 where `k_last` is 0 or the root has not grown. The
+/// squared supply is at most the product of the reserves, and a `k_last` that is not 0 between them.
 pub fn fee_shares(supply: u64, r0: u64, r1: u64, k_last: u128) -> u64
     requires reserves { (r0 < 2 ^ 48) × (r1 < 2 ^ 48) }
     requires backed { IsBacked supply r0 r1 k_last }
@@ -121,8 +129,8 @@ pub fn fee_shares(supply: u64, r0: u64, r1: u64, k_last: u128) -> u64
     ) as u64
 }
 
-/// The record after an update at the time `now`, but for its reserves: the time modulo 2^32, and
-/// the accumulators, which wrap.
+/// The record after an update at the time `now` in seconds, but for its reserves: the time modulo
+/// 2^32, and the accumulators, whose prices have 48 binary places, and which wrap (core, `_update`).
 pub fn accumulate(old: &PairRecord, now: u64) -> PairRecord
     ensures { result ≡ accumulated old.now now }
 {
@@ -146,7 +154,8 @@ fn elapsed(now: u64, last: u32) -> u32
 fn grown(acc: u128, units: u64, per: u64, elapsed: u32) -> u128
     ensures { result ≡ grown_of acc units per elapsed }
 {
-    if units == 0 || per == 0 {
+    // Within one second no price is worked out.
+    if elapsed == 0 || units == 0 || per == 0 {
         return acc;
     }
     let price = units as u128 * 0x1_0000_0000_0000 / per as u128;

@@ -6,4 +6,4 @@ mod tests;
 mod verdict;
 mod writer;
 
-pub use writer::{append, write};
+pub use writer::{append, append_answer, write};

@@ -285,3 +285,14 @@ fn quotes(rt: HostRuntime) -> Result<(), Fail> {
     );
     Ok(())
 }
+
+#[test]
+fn certificate_of_a_copy(rt: HostRuntime) -> Result<(), Fail> {
+    let alloc = rt.alloc();
+    let copy = quote(alloc)?.copy(alloc)?;
+    assert_eq!(rt;
+        amm_cert::write(alloc, &copy)?.as_slice(),
+        b"[\"amm-split-certificate\",2,\"ETH\",\"USD\",10000,[[\"ETH/USD:1\",1000000,4000000,1000000,4000000]],[[\"ETH\",4194304],[\"USD\",1048576]],[[\"ETH/USD:1\",\"ETH\",10000,39564]],39564,\"40000\"]".as_slice()
+    );
+    Ok(())
+}

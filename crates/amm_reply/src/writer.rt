@@ -4,7 +4,7 @@ ghost use Rattle.amm_model.specs.ReplyText.{reply_text, CanBeWritten};
 
 use crate::verdict::push_verdict;
 use amm_cert::piece::put_number;
-use amm_model::{Memory, Reply};
+use amm_model::{Answer, Memory, Reply};
 use std::alloc::Global;
 
 /// The text of a reply, with its newline.
@@ -22,9 +22,17 @@ pub fn append(text: &mut Vec<u8>, reply: &Reply) -> Result<(), Memory>
     requires { CanBeWritten reply.now.answer }
     ensures { OnOk result (text.new.items ≡ text.old.items ++ reply_text reply.now) }
 {
+    append_answer(text, reply.line, &reply.answer)
+}
+
+/// The same for the parts of a reply: the number of its line, and the answer.
+pub fn append_answer(text: &mut Vec<u8>, line: u64, answer: &Answer) -> Result<(), Memory>
+    requires { CanBeWritten answer.now }
+    ensures { OnOk result (text.new.items ≡ text.old.items ++ reply_text (record { line = line; answer = answer.now })) }
+{
     text.push(b'[')?;
-    put_number(text, reply.line)?;
-    push_verdict(text, &reply.answer)?;
+    put_number(text, line)?;
+    push_verdict(text, answer)?;
     text.extend_from_slice(b"]\n")?;
     Ok(())
 }

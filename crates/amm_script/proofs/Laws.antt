@@ -16,15 +16,15 @@ use Rattle.amm_model.specs.Fits.{FitsMove, FitMoves}
 use Rattle.amm_model.specs.Meaning.{known, send, synced, as_answer, meaning, meaning_of_all}
 use Rattle.amm_model.specs.Later.{Later}
 use Rattle.amm_model.proofs.Guards.{given, same_answer}
-use Rattle.amm_model.proofs.PlainSound.{transfer_sound}
-use Rattle.amm_model.proofs.Keeping.{transfer_keeps, transfer_same_settings}
-use Rattle.amm_path.proofs.Kept.{Kept, kept_same, kept_then, kept_rest, kept_later, exact_in_kept, exact_out_kept, add_kept, remove_kept}
-use Rattle.amm_factory.proofs.Creation.{create_sound, create_keeps, create_same_settings}
+use Rattle.amm_model.proofs.Laters.{Kept, kept_same, kept_then, kept_rest, transfer_kept}
+use Rattle.amm_path.proofs.Kept.{exact_in_kept, exact_out_kept, add_kept, remove_kept}
+use Rattle.amm_factory.proofs.Creation.{create_kept}
 use Rattle.amm_pair.proofs.Tokens.{tokens_differ}
-use Rattle.amm_pair.proofs.Operations.{sync_sound, sync_keeps, sync_same_settings, skim_sound, skim_keeps, skim_same_settings}
-use Rattle.amm_pair.proofs.Lending.{lend_sound, give_back_sound, loan_keeps, loan_same_settings, swap_sound, swap_keeps, swap_same_settings}
-use Rattle.amm_pair.proofs.Shares.{mint_sound, mint_keeps, mint_same_settings}
-use Rattle.amm_pair.proofs.Burning.{burn_sound, burn_keeps, burn_same_settings}
+use Rattle.amm_pair.proofs.Operations.{sync_kept, skim_kept}
+use Rattle.amm_pair.proofs.Lending.{swap_kept}
+use Rattle.amm_pair.proofs.Shares.{mint_kept}
+use Rattle.amm_pair.proofs.Burning.{burn_kept}
+use Rattle.amm_pair.proofs.Laters.{loan_kept}
 
 -- the answer in another form changes no ledger
 answered : {A : Type 0} (old : Ledger) (form : A → Answer) (outcome : Outcome A) (made : Made Answer) → ((done : Made A) → outcome ≡ Ok done → Kept old done.ledger) → as_answer form outcome ≡ Ok made → Kept old made.ledger
@@ -37,30 +37,13 @@ unfolding send
 send_kept old actor asset to n made is =
     let first = given (known old asset) _ made is in
     let second = given (transfer old asset (holders.User actor) to n) _ made first.after in
-    subst (λ (k : Made Answer). Kept old k.ledger) (same_answer _ made second.after) (record {
-      keeps = transfer_keeps old asset actor to n second.value second.was;
-      settings = transfer_same_settings old asset actor to n second.value second.was;
-      sound = transfer_sound old asset actor to n second.value second.was;
-    })
+    subst (λ (k : Made Answer). Kept old k.ledger) (same_answer _ made second.after) (transfer_kept old asset actor to n second.value second.was)
 
 synced_kept : (old : Ledger) (pool : List ℕ) (made : Made Answer) → synced old pool ≡ Ok made → Kept old made.ledger
 unfolding synced
 synced_kept old pool made is =
     let first = given (sync old pool) _ made is in
-    subst (λ (k : Made Answer). Kept old k.ledger) (same_answer _ made first.after) (record {
-      keeps = sync_keeps old pool first.value first.was;
-      settings = sync_same_settings old pool first.value first.was;
-      sound = λ sound. sync_sound old pool first.value sound first.was;
-    })
-
--- a loan, what keeps so much between, and its return
-loan_kept : (old : Ledger) (pool : List ℕ) (out0 out1 : ℕ) (to : Holder) (lent : _) (back : Ledger) (made : _)
-    → lend old pool out0 out1 to ≡ Ok lent → Kept lent.ledger back → give_back back pool out0 out1 ≡ Ok made → Kept old made.ledger
-loan_kept old pool out0 out1 to lent back made lends between returns = record {
-  keeps = loan_keeps old pool out0 out1 to lent lends back made returns between.keeps;
-  settings = loan_same_settings old pool out0 out1 to lent lends back made returns between.settings;
-  sound = λ sound. give_back_sound back pool out0 out1 made (between.sound (lend_sound old pool out0 out1 to lent sound lends)) returns;
-}
+    subst (λ (k : Made Answer). Kept old k.ledger) (same_answer _ made first.after) (sync_kept old pool first.value first.was)
 
 mutual
   unfolding meaning meaning_of_all
@@ -68,22 +51,18 @@ mutual
   -- an accepted step keeps so much
   pub step_kept : (m : Move) (old : Ledger) (actor : List ℕ) (made : Made Answer) → FitsMove m → meaning old actor m ≡ Ok made → Kept old made.ledger
   step_kept (view.transfer asset to n) old actor made fits is = send_kept old actor asset to n made is
-  step_kept (view.create a b fee) old actor made fits is = answered old answers.Create (create old a b fee) made
-      (λ done e. record { keeps = create_keeps old a b fee done e; settings = create_same_settings old a b fee done e; sound = create_sound old a b fee done fits.0 fits.1.0 fits.1.1 e }) is
-  step_kept (view.mint pool to) old actor made fits is = answered old answers.Mint (mint old pool to) made
-      (λ done e. record { keeps = mint_keeps old pool to done e; settings = mint_same_settings old pool to done e; sound = λ sound. mint_sound old pool to done e sound }) is
-  step_kept (view.burn pool to) old actor made fits is = answered old answers.Burn (burn old pool to) made
-      (λ done e. record { keeps = burn_keeps old pool to done e; settings = burn_same_settings old pool to done e; sound = λ sound. burn_sound old pool to done e (tokens_differ pool fits) sound }) is
-  step_kept (view.swap pool out0 out1 to) old actor made fits is = answered old answers.Swap (swap old pool out0 out1 to) made
-      (λ done e. record { keeps = swap_keeps old pool out0 out1 to done e; settings = swap_same_settings old pool out0 out1 to done e; sound = λ sound. swap_sound old pool out0 out1 to done sound e }) is
-  step_kept (view.skim pool to) old actor made fits is = answered old answers.Skim (skim old pool to) made
-      (λ done e. record { keeps = skim_keeps old pool to done e; settings = skim_same_settings old pool to done e; sound = λ sound. skim_sound old pool to done (tokens_differ pool fits) sound e }) is
+  step_kept (view.create a b fee) old actor made fits is = answered old answers.Create (create old a b fee) made (λ done e. create_kept old a b fee done fits.0 fits.1.0 fits.1.1 e) is
+  step_kept (view.mint pool to) old actor made fits is = answered old answers.Mint (mint old pool to) made (mint_kept old pool to) is
+  step_kept (view.burn pool to) old actor made fits is = answered old answers.Burn (burn old pool to) made (λ done e. burn_kept old pool to done e (tokens_differ pool fits)) is
+  step_kept (view.swap pool out0 out1 to) old actor made fits is = answered old answers.Swap (swap old pool out0 out1 to) made (swap_kept old pool out0 out1 to) is
+  step_kept (view.skim pool to) old actor made fits is = answered old answers.Skim (skim old pool to) made (λ done e. skim_kept old pool to done e (tokens_differ pool fits)) is
   step_kept (view.sync pool) old actor made fits is = synced_kept old pool made is
   step_kept (view.flash pool out0 out1 steps) old actor made fits is =
       let lent = given (lend old pool out0 out1 (holders.User actor)) _ made is in
       let ran = given (meaning_of_all lent.value.ledger actor steps) _ made lent.after in
+      let within = steps_kept steps lent.value.ledger actor ran.value fits.1.1.1 ran.was in
       answered old answers.Flash (give_back ran.value.ledger pool out0 out1) made
-      (λ done e. loan_kept old pool out0 out1 (holders.User actor) lent.value ran.value.ledger done lent.was (steps_kept steps lent.value.ledger actor ran.value fits.1.1.1 ran.was) e) ran.after
+      (λ done e. loan_kept old pool out0 out1 (holders.User actor) lent.value lent.was ran.value.ledger within.later done e within.zero) ran.after
   step_kept (view.add want to deadline) old actor made fits is = answered old answers.Add (add old actor want to deadline) made (λ done e. add_kept old actor want to deadline done fits.0 e) is
   step_kept (view.remove want to deadline) old actor made fits is = answered old answers.Remove (remove old actor want to deadline) made (λ done e. remove_kept old actor want to deadline done fits.0 e) is
   step_kept (view.swap_in path x least to deadline) old actor made fits is =
@@ -101,7 +80,7 @@ mutual
 
 -- what is promised of a ledger after any number of accepted steps
 pub steps_later : (ms : Moves) (old : Ledger) (actor : List ℕ) (made : Made (Unit {0})) → FitMoves ms → meaning_of_all old actor ms ≡ Ok made → Later old made.ledger
-steps_later ms old actor made fits is = kept_later old made.ledger (steps_kept ms old actor made fits is)
+steps_later ms old actor made fits is = (steps_kept ms old actor made fits is).later
 
 -- a ledger at rest stays at rest
 pub step_rest : (m : Move) (old : Ledger) (actor : List ℕ) (made : Made Answer) → FitsMove m → meaning old actor m ≡ Ok made → IsAtRest old → IsAtRest made.ledger

@@ -35,7 +35,7 @@ inner_fit step pool out0 out1 inside given same is fits =
 -- a loan that is open stays open while steps run
 pub still_open : (ms : Moves) (old : Ledger) (actor : List ℕ) (made : Made (Unit {0})) (loan : Terms) → FitMoves ms → meaning_of_all old actor ms ≡ Ok made → IsOpen old loan → IsOpen made.ledger loan
 still_open ms old actor made loan fits is open_loan = record {
-  there = (steps_kept ms old actor made fits is).keeps.locked loan.pool loan.pair open_loan.there open_loan.locked;
+  there = (steps_kept ms old actor made fits is).later.locked loan.pool loan.pair open_loan.there open_loan.locked;
   locked = open_loan.locked;
 }
 

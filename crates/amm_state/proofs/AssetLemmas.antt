@@ -13,6 +13,7 @@ use Rattle.amm_model.specs.Ledger.{Holdings, HoldingsByAsset, amount, holdings_o
 use Rattle.amm_names.proofs.OrderLemmas.{asset_equal, asset_eq, asset_total, asset_antisymmetric}
 use Rattle.amm_model.proofs.LedgerLemmas.{holdings_of-empty, holdings_of-set_holdings, IsTidyByAsset, IsTidyByAsset-empty, IsTidyByAsset-set_holdings, same_holdings, holdings_of-set_here, same_asset_itself}
 use Rattle.amm_state.specs.Rows.{Holders, AssetTable, empty_table, with_row}
+use Rattle.amm_state.proofs.RowLemmas.{read_first}
 use Rattle.amm_state.specs.Assets.{Rows, Tables, holders_at, holdings_in, rows_in, tables_of, table_at, with_table, with_amount}
 
 abbrev pub eq : Asset → Asset → Bool
@@ -24,16 +25,12 @@ Entries = List (Asset × AssetTable)
 abbrev pub table_in : Entries → Asset → AssetTable
 table_in entries q = unwrap_or (lookup (eq q) entries) empty_table
 
-first : {X : Type 0} (f : AssetTable → X) (b : Bool) (t : AssetTable) (o : Option AssetTable) → cond b (f t) (f (unwrap_or o empty_table)) ≡ f (unwrap_or (cond b (Some t) o) empty_table)
-first f true t o = refl
-first f false t o = refl
-
 pub holdings_of-holdings_in : (entries : Entries) (q : Asset) → holdings_of (holdings_in entries) q ≡ (table_in entries q).held
 unfolding holdings_in
 holdings_of-holdings_in [] q = holdings_of-empty q
 holdings_of-holdings_in (e ∷ entries) q =
     holdings_of-set_holdings (holdings_in entries) e.0 e.1.held q ∙ ap (cond (same_asset q e.0) e.1.held) (holdings_of-holdings_in entries q)
-    ∙ ap (λ b. cond b e.1.held ((table_in entries q).held)) (sym (asset_eq q e.0)) ∙ first (λ t. t.held) (eq q e.0) e.1 (lookup (eq q) entries)
+    ∙ ap (λ b. cond b e.1.held ((table_in entries q).held)) (sym (asset_eq q e.0)) ∙ sym (read_first (λ t. t.held) (eq q e.0) e.1 empty_table (lookup (eq q) entries))
 
 pub IsTidyByAsset-holdings_in : (entries : Entries) → IsTidyByAsset (holdings_in entries)
 unfolding holdings_in
@@ -51,10 +48,6 @@ get-rows_in (e ∷ entries) q =
     map.get-insert asset_total (rows_in entries) e.0 e.1.rows q ∙ ap (cond (same_asset q e.0) (Some e.1.rows)) (get-rows_in entries q)
     ∙ ap (λ b. cond b (Some e.1.rows) (option_map (λ t. t.rows) (lookup (eq q) entries))) (sym (asset_eq q e.0)) ∙ row_first (eq q e.0) e.1 (lookup (eq q) entries)
 
-out : {X : Type 0} (f : AssetTable → X) (b : Bool) (t : AssetTable) (o : Option AssetTable) → f (unwrap_or (cond b (Some t) o) empty_table) ≡ cond b (f t) (f (unwrap_or o empty_table))
-out f true t o = refl
-out f false t o = refl
-
 same_either_way : (a q : Asset) → eq a q ≡ same_asset q a
 same_either_way a q = asset_eq a q ∙ (eq_by_cmp_equiv asset_total).symm a q
 
@@ -63,7 +56,7 @@ module _ (old new : Entries) (a : Asset) (t : AssetTable) (updates : (q : Asset)
   holdings_in-updated : holdings_in new ≡ set_holdings (holdings_in old) a t.held
   holdings_in-updated =
       same_holdings _ _ (IsTidyByAsset-holdings_in new) (IsTidyByAsset-set_holdings _ a t.held (IsTidyByAsset-holdings_in old)) (λ q.
-      holdings_of-holdings_in new q ∙ ap (λ o. (unwrap_or o empty_table).held) (updates q) ∙ out (λ x. x.held) (eq a q) t (lookup (eq q) old)
+      holdings_of-holdings_in new q ∙ ap (λ o. (unwrap_or o empty_table).held) (updates q) ∙ read_first (λ x. x.held) (eq a q) t empty_table (lookup (eq q) old)
       ∙ ap (λ b. cond b t.held ((table_in old q).held)) (same_either_way a q)
       ∙ ap (cond (same_asset q a) t.held) (sym (holdings_of-holdings_in old q)) ∙ sym (holdings_of-set_holdings (holdings_in old) a t.held q))
 
@@ -108,30 +101,28 @@ tables_of-rewritten old new a t updates was = tables_of-same old new (λ q. upda
     ] refl)
 
 -- the table of an asset, as a look-up found it
-pub found_table : (entries : Entries) (a : Asset) (o : Option AssetTable) → o ≡ lookup (eq a) entries → unwrap_or o empty_table ≡ table_at (tables_of entries) a
-found_table entries a o is = ap (λ x. unwrap_or x empty_table) is ∙ sym (table_at-tables_of entries a)
+pub found_table : (entries : Entries) (a : Asset) (o : Option AssetTable) (tables : Tables) → tables_of entries ≡ tables → o ≡ lookup (eq a) entries → unwrap_or o empty_table ≡ table_at tables a
+found_table entries a o tables view is = ap (λ x. unwrap_or x empty_table) is ∙ sym (table_at-tables_of entries a) ∙ ap (λ (t : Tables). table_at t a) view
 
 -- the table that was found is changed
-pub put_in_place : (old new : Entries) (a : Asset) (t w : AssetTable) (change : AssetTable → AssetTable)
+pub put_in_place : (old new : Entries) (a : Asset) (t w : AssetTable) (change : AssetTable → AssetTable) (tables : Tables) → tables_of old ≡ tables
     → ((q : Asset) → lookup (eq q) new ≡ cond (eq a q) (Some w) (lookup (eq q) old)) → Some t ≡ lookup (eq a) old → w ≡ change t
-    → tables_of new ≡ with_table (tables_of old) a (change (table_at (tables_of old) a))
-put_in_place old new a t w change updates was is =
-    tables_of-updated old new a w updates ∙ ap (with_table (tables_of old) a) (is ∙ ap change (found_table old a (Some t) was))
+    → tables_of new ≡ with_table tables a (change (table_at tables a))
+put_in_place old new a t w change tables view updates was is =
+    tables_of-updated old new a w updates ∙ ap (with_table (tables_of old) a) is ∙ ap (λ (ts : Tables). with_table ts a (change t)) view
+    ∙ ap (λ (x : AssetTable). with_table tables a (change x)) (found_table old a (Some t) tables view was)
 
 -- a table is added for the asset
-pub put_new : (old new : Entries) (a : Asset) (w : AssetTable) (change : AssetTable → AssetTable)
+pub put_new : (old new : Entries) (a : Asset) (w : AssetTable) (change : AssetTable → AssetTable) (tables : Tables) → tables_of old ≡ tables
     → ((q : Asset) → lookup (eq q) new ≡ cond (eq a q) (Some w) (lookup (eq q) old)) → None ≡ lookup (eq a) old → w ≡ change empty_table
-    → tables_of new ≡ with_table (tables_of old) a (change (table_at (tables_of old) a))
-put_new old new a w change updates was is =
-    tables_of-updated old new a w updates ∙ ap (with_table (tables_of old) a) (is ∙ ap change (found_table old a None was))
+    → tables_of new ≡ with_table tables a (change (table_at tables a))
+put_new old new a w change tables view updates was is =
+    tables_of-updated old new a w updates ∙ ap (with_table (tables_of old) a) is ∙ ap (λ (ts : Tables). with_table ts a (change empty_table)) view
+    ∙ ap (λ (x : AssetTable). with_table tables a (change x)) (found_table old a None tables view was)
 
 pub holders_at-insert : (rows : Rows) (a : Asset) (hs : Holders) (q : Asset) → holders_at (map.insert rows a hs) q ≡ cond (same_asset q a) hs (holders_at rows q)
 unfolding holders_at
-holders_at-insert rows a hs q = rw (map.get-insert asset_total rows a hs q) (at (same_asset q a))
-  where
-    at : (b : Bool) → unwrap_or (cond b (Some hs) (map.get rows q)) set.empty ≡ cond b hs (unwrap_or (map.get rows q) set.empty)
-    at true = refl
-    at false = refl
+holders_at-insert rows a hs q = rw (map.get-insert asset_total rows a hs q) (read_first (λ x. x) (same_asset q a) hs set.empty (map.get rows q))
 
 -- the table of an asset, as it was just put
 table_at-with_table : (tables : Tables) (a : Asset) (t : AssetTable) → table_at (with_table tables a t) a ≡ t

@@ -1,6 +1,7 @@
 -- The lists of a book: tokens and pairs.
-use Rattle.std.proofs.Common.{◌≡◌, ℕ, true, false, cond, List, [], ◌∷◌, ◌++◌, nat_eq, Option, None, Some, refl, sym, ap}
+use Rattle.std.proofs.Common.{◌≡◌, ℕ, true, false, cond, List, [], ◌∷◌, ◌++◌, nat_eq, None, Some, refl, ap, ◌∙◌}
 use Rattle.std.specs.Cmp.Lexicographic.{pointwise}
+use Rattle.std.proofs.lemmas.Map.Steps.{set_value_same}
 use Rattle.indexmap.specs.IndexSet.{insert_key}
 use Rattle.amm_model.specs.declared.pair.PairRecord.{PairRecord}
 use Rattle.amm_model.specs.Ledger.{Pairs, pair_of, set_pair, is_listed}
@@ -18,14 +19,15 @@ set_pair-missing (e ∷ pairs) pool pair none =
       | false ↦ λ is. ap (λ (rest : Pairs). e ∷ rest) (set_pair-missing pairs pool pair is)
     ] none
 
+-- of two records that are written for a pool the second stays
+pub set_pair-twice : (pairs : Pairs) (pool : List ℕ) (x y : PairRecord) → set_pair (set_pair pairs pool x) pool y ≡ set_pair pairs pool y
+set_pair-twice [] pool x y = refl
+set_pair-twice (e ∷ pairs) pool x y =
+    elim (pointwise nat_eq pool e.0) as (λ b. pointwise nat_eq pool e.0 ≡ b → set_pair (cond b ((e.0, x) ∷ pairs) (e ∷ set_pair pairs pool x)) pool y ≡ cond b ((e.0, y) ∷ pairs) (e ∷ set_pair pairs pool y)) [
+      | true ↦ λ p. rw p refl
+      | false ↦ λ p. rw p (ap (λ (rest : Pairs). e ∷ rest) (set_pair-twice pairs pool x y))
+    ] refl
+
 -- a record that is put back
 pub set_pair-back : (pairs : Pairs) (pool : List ℕ) (old new : PairRecord) → pair_of pairs pool ≡ Some old → set_pair (set_pair pairs pool new) pool old ≡ pairs
-set_pair-back [] pool old new is = cc
-set_pair-back (e ∷ pairs) pool old new is =
-    elim (pointwise nat_eq pool e.0) as (λ b. pointwise nat_eq pool e.0 ≡ b → cond b (Some e.1) (pair_of pairs pool) ≡ Some old → set_pair (cond b ((e.0, new) ∷ pairs) (e ∷ set_pair pairs pool new)) pool old ≡ e ∷ pairs) [
-      | true ↦ λ p here. rw p (ap (λ (x : PairRecord). (e.0, x) ∷ pairs) (same_pair old e.1 (sym here)))
-      | false ↦ λ p later. rw p (ap (λ (rest : Pairs). e ∷ rest) (set_pair-back pairs pool old new later))
-    ] refl is
-  where
-    same_pair : (x y : PairRecord) → ◌≡◌ {A = Option PairRecord} (Some x) (Some y) → x ≡ y
-    same_pair x y q = cc
+set_pair-back pairs pool old new is = set_pair-twice pairs pool new old ∙ set_value_same (pointwise nat_eq pool) pairs old is

@@ -1,12 +1,11 @@
 -- Where nothing changes, the ledger is the same.
 use Rattle.std.proofs.Common.{◌≡◌, ℕ, ◌+◌, ◌-◌, ◌≤◌, nat_lt, Bool, true, false, cond, List, refl, sym, ap, subst, ◌∙◌, arith}
 use Rattle.std.proofs.lemmas.Bool.{le-ltb}
-use Rattle.std.specs.Cmp.{Equal-is}
 use Rattle.amm_names.specs.declared.holder.Holder.{Holder}
 use Rattle.amm_names.specs.declared.holder.Asset.{Asset}
-use Rattle.amm_names.specs.Order.{holder_cmp, asset_cmp, same_holder, same_asset}
-use Rattle.amm_names.proofs.OrderLemmas.{holder_antisymmetric, asset_antisymmetric}
+use Rattle.amm_names.specs.Order.{same_holder, same_asset}
 use Rattle.amm_model.specs.Ledger.{Holdings, HoldingsByAsset, Ledger, amount, set_amount, holdings_of, set_holdings, balance, set_balance, done, added, taken, moved, transfer, opening_ledger, with_setter}
+use Rattle.amm_model.proofs.Names.{same_holder_is, same_asset_is}
 use Rattle.amm_model.proofs.LedgerLemmas.{IsTidy, IsTidy-empty, IsTidy-set_amount, IsTidyByAsset, IsTidyByAsset-empty, IsTidyByAsset-set_holdings, holdings_of-empty, same_held, same_holdings, amount-set_amount, holdings_of-set_holdings}
 use Rattle.amm_state.specs.Journal.{IsCanonical}
 
@@ -30,12 +29,12 @@ same_as_there false x z e = refl
 set_amount-same : (held : Holdings) (h : Holder) → IsTidy held → set_amount held h (amount held h) ≡ held
 set_amount-same held h tidy =
     same_held _ held (IsTidy-set_amount held h _ tidy) tidy (λ q. amount-set_amount held h (amount held h) q
-    ∙ same_as_there (same_holder q h) (amount held h) (amount held q) (λ e. ap (amount held) (sym (holder_antisymmetric q h ((Equal-is (holder_cmp q h)).0 e)))))
+    ∙ same_as_there (same_holder q h) (amount held h) (amount held q) (λ e. ap (amount held) (sym (same_holder_is q h e))))
 
 set_holdings-same : (all : HoldingsByAsset) (a : Asset) → IsTidyByAsset all → set_holdings all a (holdings_of all a) ≡ all
 set_holdings-same all a tidy =
     same_holdings _ all (IsTidyByAsset-set_holdings all a _ tidy) tidy (λ q. holdings_of-set_holdings all a (holdings_of all a) q
-    ∙ same_as_there (same_asset q a) (holdings_of all a) (holdings_of all q) (λ e. ap (holdings_of all) (sym (asset_antisymmetric q a ((Equal-is (asset_cmp q a)).0 e)))))
+    ∙ same_as_there (same_asset q a) (holdings_of all a) (holdings_of all q) (λ e. ap (holdings_of all) (sym (same_asset_is q a e))))
 
 -- a balance that is set to what it is
 pub set_balance-same : (l : Ledger) (a : Asset) (h : Holder) → IsCanonical l → set_balance l a h (balance l a h) ≡ l

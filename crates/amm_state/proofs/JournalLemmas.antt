@@ -1,13 +1,15 @@
 -- A journal after one more change, and after one is undone.
 use Rattle.std.proofs.Common.{◌≡◌, ℕ, ◌+◌, ◌-◌, ◌≤◌, Bool, true, false, cond, Some, List, [], ◌∷◌, ◌||◌, refl, sym, ap, subst, ◌∙◌, arith}
-use Rattle.std.specs.Cmp.{eq_by_cmp_equiv, Equal-is}
+use Rattle.std.proofs.lemmas.Bool.{or_right}
+use Rattle.std.specs.Cmp.{eq_by_cmp_equiv}
 use Rattle.std.specs.FinMap as map
 use Rattle.std.specs.FinSet as set
 use Rattle.amm_names.specs.declared.holder.Holder.{Holder}
 use Rattle.amm_names.specs.declared.holder.Asset.{Asset}
-use Rattle.amm_names.specs.Order.{asset_cmp, same_asset, same_holder}
+use Rattle.amm_names.specs.Order.{same_asset, same_holder}
 use Rattle.amm_model.specs.Ledger.{Ledger, Pairs, pair_of, set_pair, balance, total, total_limit, set_balance}
-use Rattle.amm_names.proofs.OrderLemmas.{asset_total, asset_antisymmetric, holder_total}
+use Rattle.amm_names.proofs.OrderLemmas.{asset_total, holder_total}
+use Rattle.amm_model.proofs.Names.{same_asset_is}
 use Rattle.amm_model.proofs.LedgerLemmas.{total-set_balance, balance_within_total, balance-set_here, set_balance-back}
 use Rattle.amm_state.specs.declared.journal.Undo.{Undo}
 use Rattle.amm_state.specs.declared.journal.Undo.TheVariants.{Balance, Token, NewPair, Pair, FeeTo, Setter, Time}
@@ -38,12 +40,8 @@ has_row-added rows a h = has_row-add_row rows a h a h ∙ ap (λ b. cond b (same
 pub has_row-kept : (rows : Rows) (a : Asset) (h : Holder) (q : Asset) (p : Holder) → has_row rows q p ≡ true → has_row (add_row rows a h) q p ≡ true
 has_row-kept rows a h q p had = has_row-add_row rows a h q p ∙ at (same_asset q a) refl
   where
-    either : (b c : Bool) → c ≡ true → (b || c) ≡ true
-    either true c e = refl
-    either false c e = e
-
     at : (b : Bool) → same_asset q a ≡ b → cond b (same_holder p h || has_row rows a p) (has_row rows q p) ≡ true
-    at true e = either (same_holder p h) _ (ap (λ (x : Asset). has_row rows x p) (sym (asset_antisymmetric q a ((Equal-is (asset_cmp q a)).0 e))) ∙ had)
+    at true e = or_right (same_holder p h) _ (ap (λ (x : Asset). has_row rows x p) (sym (same_asset_is q a e)) ∙ had)
     at false e = had
 
 pub HasRows-kept : (changes : List Undo) (rows : Rows) (a : Asset) (h : Holder) → HasRows changes rows → HasRows changes (add_row rows a h)

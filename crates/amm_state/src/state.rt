@@ -12,7 +12,8 @@ use std::marker::Model;
 /// A book that is sound, with no pair locked.
 #[derive(Drop)]
 pub struct State {
-    pub(crate) book: Book,
+    // In a box, so that a transaction takes it over by its address.
+    pub(crate) book: Box<Book>,
     // Empty, with the room that earlier transactions needed.
     pub(crate) journal: Journal,
 }
@@ -28,9 +29,9 @@ impl Model for State {
 
     ghost coded = { ledger_code };
 
-    ghost view = { λ state. state.book.ledger };
+    ghost view = { λ state. state.book.value.ledger };
 
-    ghost invariant = { λ state. IsAtRest state.book.ledger × IsCanonical state.book.ledger × (state.journal.changes ≡ []) };
+    ghost invariant = { λ state. IsAtRest state.book.value.ledger × IsCanonical state.book.value.ledger × (state.journal.changes ≡ []) };
 }
 
 impl State {
@@ -46,8 +47,9 @@ impl State {
         ensures { IfOk result (λ state. state ≡ opening_ledger) }
     {
         let setter = UserName::read(alloc, b"admin".as_slice())?.unwrap();
+        let book = Box::new(alloc, Book::new(alloc, setter, seed))?;
         Ok(State {
-            book: Book::new(alloc, setter, seed),
+            book,
             journal: Journal::new(alloc),
         })
     }

@@ -17,7 +17,7 @@ use undo::undo_everything;
 
 /// A transaction: it ends in `commit`, or in `rollback`, which gives the ledger that it began with.
 pub struct Tx {
-    book: Book,
+    book: Box<Book>,
     journal: Journal,
     mark: Mark,
 }
@@ -30,9 +30,9 @@ impl Model for Tx {
 
     ghost coded = { progress_code };
 
-    ghost view = { λ tx. record { opening = undo_all tx.journal.changes tx.book.ledger; present = tx.book.ledger; mark = tx.mark } };
+    ghost view = { λ tx. record { opening = undo_all tx.journal.changes tx.book.value.ledger; present = tx.book.value.ledger; mark = tx.mark } };
 
-    ghost invariant = { λ tx. IsRevertible tx.journal.changes tx.book };
+    ghost invariant = { λ tx. IsRevertible tx.journal.changes tx.book.value };
 }
 
 impl Tx {

@@ -1,7 +1,8 @@
 use Rattle.std.proofs.Common.{◌≡◌, ◌≤◌, ◌+◌, ◌*◌, ℕ, sym, ap, ◌∙◌, subst}
 use Rattle.amm_model.specs.Formulas.{fee_shares_of}
 use Rattle.amm_model.specs.Pools.{supply}
-use Rattle.amm_pair.proofs.Minting.{fee_within, square_small}
+use Rattle.amm_pool.proofs.Products.{fee_within}
+use Rattle.amm_pair.proofs.Minting.{square_small}
 use Rattle.amm_pair.proofs.protocol.fee_due.Goals as goal
 
 pub returns-clause-within : goal.returns-clause-within

@@ -5,7 +5,8 @@ use Rattle.amm_model.specs.Json.{whole}
 use Rattle.amm_model.specs.Refusals.{refusal_number, refusal_word}
 use Rattle.amm_model.proofs.Escapes.{escape-word}
 use Rattle.amm_cert.specs.Texts.{next_text}
-use Rattle.amm_cert.proofs.Joined.{one_more, on_ok}
+use Rattle.std.proofs.lemmas.Result.{on_ok_weaker}
+use Rattle.amm_cert.proofs.Joined.{one_more}
 use Rattle.amm_reply.proofs.Words.{no_text}
 use Rattle.amm_reply.proofs.verdict.refused.Goals as goal
 
@@ -19,6 +20,6 @@ returns c =
     let v2 : List Data = no ∷ whole (refusal_number c.args.why) ∷ [] in
     let h1 = c.in_ok-extend_from_slice.ensures.items ∙ ap (λ s. old ++ s) (no_text ∙ sym (append-nil (next_text no))) in
     let h2 = one_more old _ _ (no ∷ []) (whole (refusal_number c.args.why)) h1 (rw c.number.ensures at c.in_ok-push_number.ensures) in
-    on_ok c.push_plain.result
+    on_ok_weaker c.push_plain.result
     (λ is. one_more old _ _ v2 (string (refusal_word c.args.why)) h2 (is ∙ ap (λ w. c.push_number.new.text.items ++ next_text (string w)) (c.as_bytes.ensures.value ∙ c.word.ensures)))
     c.push_plain.ensures

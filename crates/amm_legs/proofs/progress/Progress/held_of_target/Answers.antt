@@ -1,6 +1,6 @@
 use Rattle.std.proofs.Common.{[], ap, get_or, ◌∙◌, ◌≡◌, ℕ}
 use Rattle.amm_model.specs.Legs.{after_legs, starting_with}
-use Rattle.amm_legs.proofs.Steps.{token_at}
+use Rattle.amm_legs.proofs.Places.{token_at}
 use Rattle.amm_legs.proofs.progress.Progress.held_of_target.Goals as goal
 
 pub returns : goal.returns

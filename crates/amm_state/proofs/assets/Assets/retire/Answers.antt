@@ -4,36 +4,34 @@ use Rattle.amm_model.specs.declared.fault.Refusal.TheVariants.{Funds}
 use Rattle.amm_model.specs.Ledger.{amount, sum_held, holdings_of, total_limit}
 use Rattle.amm_model.proofs.LedgerLemmas.{amount-empty}
 use Rattle.amm_state.specs.Rows.{AssetTable, Because, with_row}
-use Rattle.amm_state.specs.Assets.{Tables, table_at, with_amount}
 use Rattle.amm_state.proofs.AssetLemmas.{found_table, put_in_place, tables_of-rewritten}
 use Rattle.amm_state.proofs.assets.Assets.retire.Goals as goal
 
 pub returns-in_default-clause-fault : goal.returns-in_default-clause-fault
 returns-in_default-clause-fault c =
-    let e = found_table c.self.inside.tables.entries c.args.asset.now None c.in_default.ensures.value ∙ ap (λ (t : Tables). table_at t c.args.asset.now) c.self.view_is in
+    let e = found_table c.self.inside.tables.entries c.args.asset.now None _ c.self.view_is c.in_default.ensures.value in
     let none : 0 ≡ amount (holdings_of c.args.self.now.holdings c.args.asset.now) c.args.from.now = sym (amount-empty c.args.from.now) ∙ ap (λ (t : AssetTable). amount t.held c.args.from.now) e in
     (refl, omega (arith, none, c.requires))
 
 pub returns-clause-before : goal.returns-clause-before
 returns-clause-before c =
-    let e = found_table c.self.inside.tables.entries c.args.asset.now (Some c.in-Some.rows.now) c.in-Some.ensures.value ∙ ap (λ (t : Tables). table_at t c.args.asset.now) c.self.view_is in
+    let e = found_table c.self.inside.tables.entries c.args.asset.now (Some c.in-Some.rows.now) _ c.self.view_is c.in-Some.ensures.value in
     subst (λ (t : AssetTable). IfOk c.retire.result (λ before. before ≡ amount t.held c.args.from.now)) e c.retire.ensures.before
 
 pub returns-clause-limit : goal.returns-clause-limit
 returns-clause-limit c =
-    let e = found_table c.self.inside.tables.entries c.args.asset.now (Some c.in-Some.rows.now) c.in-Some.ensures.value ∙ ap (λ (t : Tables). table_at t c.args.asset.now) c.self.view_is in
+    let e = found_table c.self.inside.tables.entries c.args.asset.now (Some c.in-Some.rows.now) _ c.self.view_is c.in-Some.ensures.value in
     subst (λ (t : AssetTable). OnOk c.retire.result (sum_held t.held ≤ total_limit)) e c.retire.ensures.limit
 
 pub returns-clause-ok : goal.returns-clause-ok
 returns-clause-ok c =
     let updates = ((c.get_mut.follows.holds c.retire.new.self).3 (ap is_some (sym c.in-Some.ensures.value))).0 in
     IfOk-weaker c.retire.result _ _ (λ before written.
-    put_in_place c.self.inside.tables.entries _ c.args.asset.now c.in-Some.rows.now c.retire.new.self (λ t. with_row t c.args.from.now (before - c.args.n)) updates c.in-Some.ensures.value written
-    ∙ ap (λ (t : Tables). with_amount t c.args.asset.now c.args.from.now (before - c.args.n)) c.self.view_is) c.retire.ensures.ok
+    put_in_place c.self.inside.tables.entries _ c.args.asset.now c.in-Some.rows.now c.retire.new.self (λ t. with_row t c.args.from.now (before - c.args.n)) _ c.self.view_is updates c.in-Some.ensures.value written) c.retire.ensures.ok
 
 pub returns-clause-fault : goal.returns-clause-fault
 returns-clause-fault c =
-    let e = found_table c.self.inside.tables.entries c.args.asset.now (Some c.in-Some.rows.now) c.in-Some.ensures.value ∙ ap (λ (t : Tables). table_at t c.args.asset.now) c.self.view_is in
+    let e = found_table c.self.inside.tables.entries c.args.asset.now (Some c.in-Some.rows.now) _ c.self.view_is c.in-Some.ensures.value in
     subst (λ (t : AssetTable). IfErr c.retire.result (λ fault. Because fault Funds (amount t.held c.args.from.now < c.args.n))) e c.retire.ensures.fault
 
 pub returns-clause-err : goal.returns-clause-err

@@ -1,4 +1,4 @@
-use Rattle.std.proofs.Common.{ℕ, List, [], arith}
+use Rattle.std.proofs.Common.{ℕ, List, [], ◌∙◌, arith}
 use Rattle.std.proofs.lemmas.Map.Keys.{IsDistinct-from_apart}
 use Rattle.amm_model.specs.Ledger.{opening_ledger, with_setter}
 use Rattle.amm_model.specs.Sound.{IsSound, IsAtRest}
@@ -23,4 +23,6 @@ opening_rest : (setter : List ℕ) → IsAtRest (with_setter opening_ledger sett
 opening_rest setter = record { sound = opening_sound setter; unlocked = λ pool pair is. cc }
 
 pub invariant_of-result : goal.invariant_of-result
-invariant_of-result c = (rw c.new.ensures (opening_rest c.unwrap-setter.result), rw c.new.ensures (canonical-opening c.unwrap-setter.result), c.new-2.ensures)
+invariant_of-result c =
+    let is = c.in_ok-book.ensures.ok ∙ c.new.ensures in
+    (rw is (opening_rest c.unwrap-setter.result), rw is (canonical-opening c.unwrap-setter.result), c.new-3.ensures)
