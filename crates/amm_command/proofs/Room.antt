@@ -11,6 +11,3 @@ room_after-is_none room n h = grind (arith, nat_tests)
 
 pub room_after-is_some : (room n left : ℕ) → Some left ≡ room_after room n → left + n ≡ room
 room_after-is_some room n left h = grind (arith, nat_tests)
-
-pub room_after-some : (room n left : ℕ) → left + n ≡ room → Some left ≡ room_after room n
-room_after-some room n left h = grind (arith, nat_tests)
