@@ -17,7 +17,7 @@ struct Market {
     eth: TokenName,
     usd: TokenName,
     pool: PoolName,
-    alice: Holder,
+    alice: UserName,
 }
 
 fn open_market(alloc: Global) -> Result<Market, Fail> {
@@ -35,7 +35,7 @@ fn open_market(alloc: Global) -> Result<Market, Fail> {
             eth,
             usd,
             pool,
-            alice: Holder::User(alice),
+            alice,
         }),
         None => Err("no pool")?,
     }
@@ -88,7 +88,7 @@ fn found(alloc: Global, tx: &mut Tx, m: &Market) -> Result<MintReceipt, Fault>
     bring(alloc, tx, &m.eth, &m.pool, 1_000_000)?;
     bring(alloc, tx, &m.usd, &m.pool, 4_000_000)?;
     create(alloc, tx, &m.pool)?;
-    mint(alloc, tx, &m.pool, &m.alice)
+    mint(alloc, tx, &m.pool, &Holder::User(m.alice))
 }
 
 fn swap_and_skim(
@@ -102,9 +102,9 @@ fn swap_and_skim(
     ensures sound { OnOk result (IsSound tx.new.present) }
 {
     bring(alloc, tx, &m.eth, &m.pool, 10_000)?;
-    let swapped = swap(alloc, tx, &m.pool, 0, 39_486, &m.alice)?;
+    let swapped = swap(alloc, tx, &m.pool, 0, 39_486, &Holder::User(m.alice))?;
     bring(alloc, tx, &m.eth, &m.pool, 7)?;
-    let skimmed = skim(alloc, tx, &m.pool, &m.alice)?;
+    let skimmed = skim(alloc, tx, &m.pool, &Holder::User(m.alice))?;
     Ok((swapped, skimmed))
 }
 
@@ -125,7 +125,7 @@ fn mint_and_burn(
     bring(alloc, tx, &m.eth, &m.pool, 110_000)?;
     bring(alloc, tx, &m.usd, &m.pool, 400_000)?;
     let minted = mint(alloc, tx, &m.pool, &Holder::Pool(m.pool))?;
-    let burned = burn(alloc, tx, &m.pool, &m.alice)?;
+    let burned = burn(alloc, tx, &m.pool, &Holder::User(m.alice))?;
     Ok((minted, burned))
 }
 
@@ -135,7 +135,7 @@ fn borrow(alloc: Global, tx: &mut Tx, m: &Market) -> Result<SwapReceipt, Fault>
     ensures clean { OnOk result (tx.new.mark ≡ Mark.Clean) }
     ensures sound { OnOk result (IsSound tx.new.present) }
 {
-    let loan = open_loan(alloc, tx, &m.pool, 1000, 0, &m.alice)?;
+    let loan = open_loan(alloc, tx, &m.pool, 1000, 0, &Holder::User(m.alice))?;
     if let Err(why) = bring(alloc, tx, &m.eth, &m.pool, 1004) {
         abandon_loan(tx, loan);
         return Err(why);
@@ -147,7 +147,7 @@ fn borrow_and_fail(alloc: Global, tx: &mut Tx, m: &Market) -> Fault
     requires clean { tx.old.mark ≡ Mark.Clean }
     requires sound { IsSound tx.old.present }
 {
-    match open_loan(alloc, tx, &m.pool, 0, 1, &m.alice) {
+    match open_loan(alloc, tx, &m.pool, 0, 1, &Holder::User(m.alice)) {
         Ok(loan) => {
             let why = tx.refuse(Refusal::Stale);
             abandon_loan(tx, loan);
