@@ -20,7 +20,7 @@ from trades import flash, opening, swap_along
 LINES = 20_000
 # The first that fits names a function's group.
 GROUPS = [
-    ("json: the text of a line as a value", r"^(json|fast_float|simdutf8|core::str|amm_command::(value|number|json))"),
+    ("json: the text of a line as a value", r"^(json|fast_float|simdutf8|core::str|amm_command::(value|number|nested|json))"),
     ("amm_command: a value as a command", r"^amm_command"),
     ("amm_names: names read, compared, joined", r"^amm_names"),
     ("amm_state, indexmap: rows looked up and changed", r"^(amm_state|indexmap)"),
