@@ -6,3 +6,11 @@ pub mod Values
 pub mod Numerals
 pub mod Turns
 pub mod Firsts
+pub mod Readings
+pub mod Fronts
+pub mod Names
+pub mod Lists
+pub mod LoanLemmas
+pub mod Lines
+pub mod WrittenBack
+pub mod Paths

@@ -2,11 +2,14 @@
 //! are told apart exactly, and a command is read as exactly what its row says.
 #![tactic(auto)]
 
+mod cursor;
 mod form;
 mod line;
 mod nested;
 mod number;
+mod part;
 mod path;
+mod plain;
 mod row;
 mod step;
 mod step_row;

@@ -6,9 +6,9 @@ ghost use Rattle.amm_model.specs.Reading.{act_row, row_of, command_of_list, comm
 ghost use Rattle.amm_command.specs.Seen.{seen};
 
 use crate::form::{MISFIT, list, text, user};
-use crate::row;
 use crate::step::{fits, move_row};
 use crate::value::read_value;
+use crate::{plain, row};
 use amm_model::{Command, Fault, Memory};
 use json::{Scratch, Value};
 use std::alloc::Global;
@@ -27,8 +27,18 @@ impl LineReader {
 
     /// The command that the bytes of a line are. `BadJson` exactly where they are no JSON, and `BadCommand` exactly where they are JSON
     /// that fits no row of the table of commands.
-    #[tactic(auto, unfolding(amm_model::specs::Reading::command_of_line))]
     pub fn read(&mut self, alloc: Global, bytes: &[u8]) -> Result<Command, Fault>
+        ensures { Gives view_of result (command_of_line bytes.now) }
+    {
+        match plain::command(alloc, bytes) {
+            Some(command) => Ok(command),
+            None => self.read_any(alloc, bytes),
+        }
+    }
+
+    /// The same, however the line is written.
+    #[tactic(auto, unfolding(amm_model::specs::Reading::command_of_line))]
+    fn read_any(&mut self, alloc: Global, bytes: &[u8]) -> Result<Command, Fault>
         ensures { Gives view_of result (command_of_line bytes.now) }
     {
         let value = read_value(alloc, bytes, &mut self.scratch)?;
