@@ -1,1 +1,12 @@
 pub mod Joined
+pub mod Values
+pub mod Wide
+pub mod Prices
+pub mod Places
+pub mod Forms
+pub mod Parts
+pub mod Whole
+pub mod ReadBack
+pub mod Unique
+pub mod Ascii
+pub mod Certified

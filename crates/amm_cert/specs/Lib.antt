@@ -1,1 +1,4 @@
 pub mod Texts
+pub mod Rows
+pub mod Finds
+pub mod Plain

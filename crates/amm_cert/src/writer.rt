@@ -1,7 +1,7 @@
 //! A whole certificate.
 ghost use Rattle.std.specs.Prelude.{◌≡◌, ◌++◌, IfOk, OnOk};
 ghost use Rattle.serde_json.specs.Written.{compact_text};
-ghost use Rattle.amm_model.specs.Certificate.{certificate_value, certificate_text, IsWritable};
+ghost use Rattle.amm_model.specs.Certificate.{certificate_value, certificate_text, IsCertifiable, IsCertificateOf, IsWritable};
 
 use crate::piece::{push_number, push_token, push_wide};
 use crate::quote::{push_legs, push_pools, push_prices};
@@ -12,11 +12,24 @@ use std::alloc::Global;
 #[tactic(auto, unfolding(amm_model::specs::Certificate::certificate_text))]
 pub fn write(alloc: Global, quote: &Quote) -> Result<Vec<u8>, Memory>
     requires { IsWritable quote.now }
-    ensures { IfOk result (λ text. text.items ≡ certificate_text quote.now) }
+    ensures text { IfOk result (λ text. text.items ≡ certificate_text quote.now) }
+    ensures certificate { IfOk result (λ text. IsCertificateOf text.items quote.now) }
 {
     let mut text = Vec::with_capacity(alloc, 1024)?;
     put_certificate(&mut text, quote)?;
+    kept(quote);
     Ok(text)
+}
+
+// Does nothing: the parts of a quote are as their types keep them.
+fn kept(quote: &Quote)
+    requires { IsWritable quote.now }
+    ensures { IsCertifiable quote.now }
+{
+    let _problem = quote.problem.d();
+    let _prices = quote.prices.as_slice();
+    let _delivered = quote.delivered;
+    let _bound = quote.bound;
 }
 
 /// The certificate of a quote, behind what is there.

@@ -1,14 +1,15 @@
 -- Certificates: a quote as JSON, from which anybody can check it.
-use Rattle.std.specs.Prelude.{ℕ, ◌≡◌, ◌<◌, ◌≤◌, List, [], ◌∷◌, map, length, codes, All}
+use Rattle.std.specs.Prelude.{ℕ, ◌≡◌, ◌<◌, ◌≤◌, ◌^◌, ◌⊎◌, List, [], ◌∷◌, map, length, codes, All, Some}
 use Rattle.std.specs.List.{zip}
 use Rattle.serde_json.specs.Data.{Data, string}
 use Rattle.serde_json.specs.Written.{compact_text}
 use Rattle.amm_model.specs.declared.problem.ProblemPool.{ProblemPool}
 use Rattle.amm_model.specs.declared.route.Leg.{Leg}
 use Rattle.amm_model.specs.declared.route.Quote.{Quote}
+use Rattle.amm_model.specs.Routing.{ArePrices, IsProblem, fee_of}
 use Rattle.amm_model.specs.Legs.{leg_pool, token_in}
 use Rattle.amm_model.specs.Forms.{amount_max}
-use Rattle.amm_model.specs.Json.{whole, wide, list}
+use Rattle.amm_model.specs.Json.{whole, wide, list, json_value}
 
 -- a pool with its reserves and balances
 abbrev pub pool_value : ProblemPool → Data
@@ -30,11 +31,15 @@ leg_value pools leg = list (string (leg_pool pools leg).name ∷ string (token_i
 abbrev pub legs_value : Quote → Data
 legs_value quote = list (map (leg_value quote.problem.pools) quote.route.legs)
 
--- a certificate of version 2
-abbrev pub certificate_value : Quote → Data
-certificate_value quote =
-    list (string (codes "amm-split-certificate") ∷ whole 2 ∷ string quote.problem.s ∷ string quote.problem.t ∷ whole quote.problem.d
+-- a certificate, in a version of the format
+abbrev pub versioned_value : ℕ → Quote → Data
+versioned_value version quote =
+    list (string (codes "amm-split-certificate") ∷ whole version ∷ string quote.problem.s ∷ string quote.problem.t ∷ whole quote.problem.d
     ∷ list (map pool_value quote.problem.pools) ∷ prices_value quote ∷ legs_value quote ∷ whole quote.delivered ∷ wide quote.bound ∷ [])
+
+-- a certificate as it is written, in version 2
+abbrev pub certificate_value : Quote → Data
+certificate_value quote = versioned_value 2 quote
 
 -- the compact text of a quote
 unfoldable pub certificate_text : Quote → List ℕ
@@ -46,3 +51,28 @@ pub record IsWritable (quote : Quote) : Type 0 where
   pub few : length quote.route.legs ≤ 256
   pub there : All (λ (leg : Leg). leg.pool < length quote.problem.pools) quote.route.legs
   pub amounts : All (λ (leg : Leg). (leg.input ≤ amount_max) × (leg.output ≤ amount_max)) quote.route.legs
+
+-- A version that pools may be written in: version 1 has only pools of the fee of 3, which are spelled without a fee; version 2 has any.
+abbrev pub IsVersionFor : ℕ → List ProblemPool → Type 0
+IsVersionFor version pools = ((version ≡ 1) × All (λ (pool : ProblemPool). fee_of pool ≡ 3) pools) ⊎ (version ≡ 2)
+
+-- A quote with a problem, prices and numbers as its types keep them, which can be written.
+pub record IsCertifiable (quote : Quote) : Type 0 where
+  pub problem : IsProblem quote.problem
+  pub prices : ArePrices quote.prices
+  pub writable : IsWritable quote
+  pub delivered : quote.delivered < 2 ^ 64
+  pub bound : quote.bound < 2 ^ 128
+
+-- A JSON value that is a certificate of the quote.
+pub record IsValueOf (value : Data) (quote : Quote) : Type 0 where
+  pub version : ℕ
+  pub known : IsVersionFor version quote.problem.pools
+  pub spelled : value ≡ versioned_value version quote
+  pub sound : IsCertifiable quote
+
+-- Bytes that are a certificate of the quote: JSON, with white space or without, of such a value.
+pub record IsCertificateOf (bytes : List ℕ) (quote : Quote) : Type 0 where
+  pub value : Data
+  pub text : json_value bytes ≡ Some value
+  pub of_quote : IsValueOf value quote

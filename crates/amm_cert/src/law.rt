@@ -1,0 +1,17 @@
+//! What holds of all certificates, whoever wrote them.
+ghost use Rattle.std.specs.Prelude.{◌≡◌, ℕ, List};
+ghost use Rattle.serde_json.specs.Written.{compact_text};
+ghost use Rattle.amm_model.specs.declared.route.Quote as quote_view;
+ghost use Rattle.amm_model.specs.Certificate.{IsCertifiable, IsCertificateOf, IsVersionFor, certificate_text, versioned_value};
+
+/// The text of a quote is a certificate of that quote; so is its text in any version that its pools may be written in.
+pub fn text_is_certificate()
+    ensures text { (quote : quote_view.Quote) → IsCertifiable quote → IsCertificateOf (certificate_text quote) quote }
+    ensures versions { (version : ℕ) (quote : quote_view.Quote) → IsVersionFor version quote.problem.pools → IsCertifiable quote →
+        IsCertificateOf (compact_text (versioned_value version quote)) quote }
+{}
+
+/// Bytes are a certificate of one quote at most.
+pub fn certificate_has_one_quote()
+    ensures { (bytes : List ℕ) (p q : quote_view.Quote) → IsCertificateOf bytes p → IsCertificateOf bytes q → p ≡ q }
+{}
