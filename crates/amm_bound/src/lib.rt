@@ -5,14 +5,14 @@
 //! all problems, prices and routes, and `legs_are_a_route` that a route leg by leg is such a route.
 #![tactic(auto)]
 
-ghost use Rattle.std.specs.Prelude.{◌≡◌, ℕ, List, ◌+◌, ◌*◌, ◌/◌, ◌<◌, ◌≤◌, ◌^◌, length, slice_index, map, []};
-ghost use Rattle.amm_model.specs.Routing.{ArePrices, HasReserves, IsProblem, IsRoute, ProblemView, Trade, delivered_by, fee_of};
-ghost use Rattle.amm_model.specs.Legs.{AreLegs, after_legs, starting_with, trade_of};
+ghost use Rattle.std.specs.Prelude.{◌≡◌, ℕ, List, ◌+◌, ◌*◌, ◌/◌, ◌<◌, ◌≤◌, ◌^◌, length, slice_index, sum_by, map, []};
+ghost use Rattle.amm_model.specs.Routing.{ArePrices, HasReserves, IsOpenProblem, IsProblem, IsRoute, OpenView, ProblemView, Trade, delivered_by, fee_of, given, opened};
+ghost use Rattle.amm_model.specs.Legs.{AreLegs, after_legs, trade_of};
 ghost use Rattle.amm_model.specs.declared.route.Leg as leg_view;
 ghost use Rattle.amm_model.specs.Swap.{IsFee};
-ghost use Rattle.amm_model.specs.Bound.{bound_of, margin as margin_of, worth_of};
+ghost use Rattle.amm_model.specs.Bound.{bound_of, margin as margin_of, part_value, pool_worth, worth_of};
 
-use amm_model::{Prices, Problem, ProblemPool, TokenPlaces};
+use amm_model::{OpenProblem, Prices, Problem, ProblemPool, TokenPlaces};
 use amm_num::root;
 
 // Roots are taken of numbers with thirty more binary places.
@@ -57,23 +57,60 @@ fn margin(weight: u128, a: u128, b: u128) -> u128
 /// each token of the problem, in the order of its tokens. The answer may be above 64 bits.
 pub fn bound(problem: &Problem, prices: &Prices) -> u128
     requires { length prices.now ≡ length problem.now.tokens }
+    ensures value { result ≡ bound_of (opened problem.now) prices.now }
+    ensures beats { (route : List Trade) → IsRoute (opened problem.now) route → delivered_by (opened problem.now) route ≤ result }
+    ensures below { result < 2 ^ 108 }
+{
+    open_bound(problem.as_open(), prices)
+}
+
+/// The bound of a problem of any parts, in units of the target: no route delivers more.
+pub fn open_bound(problem: &OpenProblem, prices: &Prices) -> u128
+    requires { length prices.now ≡ length problem.now.tokens }
     ensures value { result ≡ bound_of problem.now prices.now }
     ensures beats { (route : List Trade) → IsRoute problem.now route → delivered_by problem.now route ≤ result }
+    ensures below { result < 2 ^ 108 }
 {
-    let d = problem.d();
-    let (source, target) = problem.ends();
-    let pools = problem.pools();
-    let places = problem.places();
     let list = prices.as_slice();
-    let mut value = list[source] as u128 * d as u128;
-    for i in 0..pools.len() {
-        value += worth_at(&pools[i], places[i], list);
-    }
+    let target = problem.target();
+    let value = parts_value(problem, list) + worths(problem, list);
     value / list[target] as u128
 }
 
-// The worth of a pool at the prices of its tokens, which stand at the places.
-fn worth_at(pool: &ProblemPool, places: TokenPlaces, prices: &[u64]) -> u128
+/// What the parts are worth at the prices of their tokens.
+pub fn parts_value(problem: &OpenProblem, prices: &[u64]) -> u128
+    requires many { length prices.now ≡ length problem.now.tokens }
+    requires prices { ArePrices prices.now }
+    ensures value { result ≡ sum_by (part_value problem.now.tokens prices.now) problem.now.parts }
+    ensures below { result < 2 ^ 96 }
+{
+    let parts = problem.parts();
+    let places = problem.part_places();
+    let mut value: u128 = 0;
+    for i in 0..parts.len() {
+        value += prices[places[i]] as u128 * parts[i].amount as u128;
+    }
+    value
+}
+
+// The sum of the worths of all pools.
+fn worths(problem: &OpenProblem, prices: &[u64]) -> u128
+    requires many { length prices.now ≡ length problem.now.tokens }
+    requires prices { ArePrices prices.now }
+    ensures value { result ≡ sum_by (pool_worth problem.now.tokens prices.now) problem.now.pools }
+    ensures below { result < 2 ^ 107 + 1 }
+{
+    let pools = problem.pools();
+    let places = problem.places();
+    let mut value: u128 = 0;
+    for i in 0..pools.len() {
+        value += worth_at(&pools[i], places[i], prices);
+    }
+    value
+}
+
+/// The worth of a pool at the prices of its tokens, which stand at the places.
+pub fn worth_at(pool: &ProblemPool, places: TokenPlaces, prices: &[u64]) -> u128
     requires reserves { HasReserves pool.now }
     requires places { (places.zero < length prices.now) × (places.one < length prices.now) }
     requires prices { ArePrices prices.now }
@@ -92,18 +129,25 @@ fn worth_at(pool: &ProblemPool, places: TokenPlaces, prices: &[u64]) -> u128
 /// No route delivers more than the bound, at any prices of any problem.
 pub fn no_route_beats()
     ensures { (problem : ProblemView) (prices : List ℕ) (route : List Trade) →
-        IsProblem problem → length prices ≡ length problem.tokens → ArePrices prices → IsRoute problem route →
+        IsProblem problem → length prices ≡ length problem.tokens → ArePrices prices → IsRoute (opened problem) route →
+        delivered_by (opened problem) route ≤ bound_of (opened problem) prices }
+{}
+
+/// The same of problems of any parts.
+pub fn no_open_route_beats()
+    ensures { (problem : OpenView) (prices : List ℕ) (route : List Trade) →
+        IsOpenProblem problem → length prices ≡ length problem.tokens → ArePrices prices → IsRoute problem route →
         delivered_by problem route ≤ bound_of problem prices }
 {}
 
 /// A leg-by-leg route is, leg for trade, a route that delivers the same.
 pub fn legs_are_a_route()
-    ensures route { (problem : ProblemView) (legs : List leg_view.Leg) →
-        IsProblem problem → AreLegs problem.pools [] (starting_with problem) legs →
+    ensures route { (problem : OpenView) (legs : List leg_view.Leg) →
+        IsOpenProblem problem → AreLegs problem.pools [] (given problem) legs →
         IsRoute problem (map trade_of legs) }
-    ensures delivers { (problem : ProblemView) (legs : List leg_view.Leg) →
-        IsProblem problem → AreLegs problem.pools [] (starting_with problem) legs →
-        delivered_by problem (map trade_of legs) ≡ after_legs problem.pools (starting_with problem) legs problem.t }
+    ensures delivers { (problem : OpenView) (legs : List leg_view.Leg) →
+        IsOpenProblem problem → AreLegs problem.pools [] (given problem) legs →
+        delivered_by problem (map trade_of legs) ≡ after_legs problem.pools (given problem) legs problem.t }
 {}
 
 #[cfg(test)]

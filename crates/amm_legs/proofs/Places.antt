@@ -11,36 +11,6 @@ use Rattle.std.proofs.lemmas.List.Sums.{passes_at_first}
 use Rattle.std.proofs.Math.ListN.{replicate, length-replicate, length-set, get_or-eq_default}
 use Rattle.amm_model.specs.Routing.{Name, token_place}
 
--- the token at its own place
-pub token_at : (tokens : List Name) (name : Name) → token_place tokens name < length tokens → get_or tokens (token_place tokens name) [] ≡ name
-token_at tokens name there = sym ((bytes_eq-Decides name (get_or tokens (token_place tokens name) [])).0 (passes_at_first (bytes_eq name) tokens [] there))
-
--- a token is at its place, and at no other
-pub same_at : (tokens : List Name) → AllPairs (λ (a b : Name). a ≢ b) tokens → (name : Name) → token_place tokens name < length tokens →
-    (j : ℕ) → j < length tokens → bytes_eq (get_or tokens j []) name ≡ nat_eq j (token_place tokens name)
-same_at tokens once name there j below = both_ways _ _ to back
-  where
-    found : get_or tokens (token_place tokens name) [] ≡ name
-    found = token_at tokens name there
-
-    back : nat_eq j (token_place tokens name) ≡ true → bytes_eq (get_or tokens j []) name ≡ true
-    back e =
-        let same : j ≡ token_place tokens name = grind (arith, nat_tests) in
-        (bytes_eq-Decides (get_or tokens j []) name).1 (ap (λ (k : ℕ). get_or tokens k []) same ∙ found)
-
-    apart : get_or tokens j [] ≡ name → j ≢ token_place tokens name → ⊥
-    apart e differ = elim (cases_lt j (token_place tokens name)) [
-      | inl lt ↦ once j (token_place tokens name) [] lt there (e ∙ sym found)
-      | inr ge ↦ once (token_place tokens name) j [] (omega arith) below (found ∙ sym e)
-    ]
-
-    pick : (c : Bool) → nat_eq j (token_place tokens name) ≡ c → get_or tokens j [] ≡ name → c ≡ true
-    pick true t e = refl
-    pick false t e = absurd (apart e (grind (arith, nat_tests)))
-
-    to : bytes_eq (get_or tokens j []) name ≡ true → nat_eq j (token_place tokens name) ≡ true
-    to e = pick (nat_eq j (token_place tokens name)) refl ((bytes_eq-Decides (get_or tokens j []) name).0 e)
-
 -- one place is set
 pub read_set : (xs : List ℕ) (i y j : ℕ) → i < length xs → get_or (set xs i y) j 0 ≡ cond (nat_eq j i) y (get_or xs j 0)
 read_set xs i y j inside = pick (nat_eq j i) refl

@@ -1,44 +1,101 @@
 -- What is kept before the first leg, and after one more.
-use Rattle.std.proofs.Common.{◌≡◌, ◌≢◌, ℕ, ◌+◌, ◌-◌, ◌*◌, ◌^◌, ◌<◌, ◌≤◌, Bool, true, false, cond, nat_eq, List, [], ◌∷◌, length, map, take, arith, suc, refl, sym, ap, subst, ◌∙◌, get_or, set}
+use Rattle.std.proofs.Common.{◌≡◌, ◌≢◌, ℕ, ◌+◌, ◌-◌, ◌*◌, ◌^◌, ◌<◌, ◌≤◌, Bool, true, false, cond, nat_eq, List, [], ◌∷◌, length, map, take, arith, zero, suc, refl, sym, ap, subst, ◌∙◌, get_or, set}
 use Rattle.std.specs.Prelude.{◌↔◌, All, AllPairs, if◌then◌else◌}
 use Rattle.std.specs.Str.{bytes_eq}
 use Rattle.std.proofs.lemmas.Bool.Decides.{nat_tests}
-use Rattle.std.proofs.lemmas.List.{get_or-map, get_or-set_same, get_or-set_other, length-take}
+use Rattle.std.proofs.lemmas.Slice.Eq.{bytes_eq-Decides}
+use Rattle.std.proofs.lemmas.List.{get_or-map, get_or-set_same, get_or-set_other, length-take, take_all}
 use Rattle.std.proofs.lemmas.List.Elements.{All-cons, All-tail}
 use Rattle.std.proofs.Math.ListN.{length-set}
+use Rattle.amm_model.specs.declared.problem.Part.{Part}
 use Rattle.amm_model.specs.declared.problem.ProblemPool.{ProblemPool}
 use Rattle.amm_model.specs.declared.problem.TokenPlaces.{TokenPlaces}
 use Rattle.amm_model.specs.declared.route.Leg.{Leg}
 use Rattle.amm_model.specs.Swap.{amount_out_of}
-use Rattle.amm_model.specs.Routing.{Name, ProblemView, IsProblem, fee_of, places_of, token_place, no_pool, token0_of, token1_of}
-use Rattle.amm_model.specs.Legs.{Holdings, IsLeg, after_legs, starting_with, used_after, no_leg, leg_pool, token_in, token_out}
+use Rattle.amm_model.specs.Routing.{Name, OpenView, IsBefore, IsOpenProblem, fee_of, given_by_parts, part_place, places_of, token_place, no_pool, token0_of, token1_of}
+use Rattle.amm_model.specs.Legs.{Holdings, IsLeg, after_legs, used_after, no_leg, leg_pool, token_in, token_out}
+use Rattle.amm_model.specs.Routing.{given}
 use Rattle.amm_model.proofs.Swap.{amount_out-lt}
-use Rattle.amm_model.proofs.Problems.{once_tokens, source_there, tokens_there, tokens_few}
+use Rattle.amm_model.proofs.Problems.{before-apart, no_part, once_tokens, parts_there, tokens_there, tokens_few}
 use Rattle.amm_model.proofs.LegLaw.{legs_few}
 use Rattle.amm_legs.specs.Progress.{Follows, IsNext}
 use Rattle.amm_legs.proofs.Legs.{after_legs-more, legs-more, used_after-more}
-use Rattle.amm_legs.proofs.Places.{token_at, same_at, read_set, moved}
+use Rattle.amm_legs.proofs.Places.{read_set, moved}
+use Rattle.amm_model.proofs.Problems.{token_at, same_at}
 
-pub follows_start : (problem : ProblemView) → IsProblem problem → (zeros : List ℕ) (unmarked : List Bool) (source d : ℕ) → length zeros ≡ 514 → length unmarked ≡ 256 →
-    ((j : ℕ) → get_or zeros j 0 ≡ 0) → ((place : ℕ) → get_or unmarked place false ≡ false) →
-    source ≡ token_place problem.tokens problem.s → d ≡ problem.d → Follows problem [] (set zeros source d) unmarked
-follows_start problem sound zeros unmarked source d long wide zero_all false_all source-is d-is = record {
-  long = length-set zeros source d ∙ long;
-  wide = wide;
-  legal = tt;
-  amounts = λ j below. read_set zeros source d j inside ∙ ap (λ (n : ℕ). cond (nat_eq j source) d n) (zero_all j)
-      ∙ ap (λ (b : Bool). cond b d 0) (ap (nat_eq j) source-is ∙ sym (same_at problem.tokens (once_tokens problem sound) problem.s (source_there problem sound) j below))
-      ∙ ap (λ (n : ℕ). cond (bytes_eq (get_or problem.tokens j []) problem.s) n 0) d-is;
-  below = λ j. rw (read_set zeros source d j inside) (small (nat_eq j source) j);
-  marks = λ place inside. ((λ _ k e below. absurd (omega arith)), λ _. false_all place);
+-- one part more is given
+given-more : (parts : List Part) (i : ℕ) → i < length parts → AllPairs (λ (a b : Part). IsBefore a.token b.token) parts → (y : Name) →
+    given_by_parts (take (suc i) parts) y ≡ (if bytes_eq y (get_or parts i no_part).token then (get_or parts i no_part).amount else given_by_parts (take i parts) y)
+given-more [] i below rising y = absurd (omega arith)
+given-more (part ∷ parts) zero below rising y = refl
+given-more (part ∷ parts) (suc i) below rising y =
+    pick (bytes_eq y part.token) (bytes_eq y (get_or parts i no_part).token) (bytes_eq-Decides y part.token).0 (bytes_eq-Decides y (get_or parts i no_part).token).0
+    (before-apart part.token (get_or parts i no_part).token (rising 0 (suc i) no_part (omega arith) below))
+    (given-more parts i (omega arith) (λ a b d ab under. rising (suc a) (suc b) d (omega arith) (omega arith)) y)
+  where
+    pick : (b c : Bool) → (b ≡ true → y ≡ part.token) → (c ≡ true → y ≡ (get_or parts i no_part).token) → part.token ≢ (get_or parts i no_part).token →
+        given_by_parts (take (suc i) parts) y ≡ cond c (get_or parts i no_part).amount (given_by_parts (take i parts) y) →
+        cond b part.amount (given_by_parts (take (suc i) parts) y) ≡ cond c (get_or parts i no_part).amount (cond b part.amount (given_by_parts (take i parts) y))
+    pick true true first other apart rest = absurd (apart (sym (first refl) ∙ other refl))
+    pick true false first other apart rest = refl
+    pick false true first other apart rest = rest
+    pick false false first other apart rest = rest
+
+-- What is held of each token after so many parts.
+pub record Gives (problem : OpenView) (n : ℕ) (held : List ℕ) : Type 0 where
+  pub long : length held ≡ 521
+  pub amounts : (j : ℕ) → j < length problem.tokens → get_or held j 0 ≡ given_by_parts (take n problem.parts) (get_or problem.tokens j [])
+  pub below : (j : ℕ) → get_or held j 0 ≤ 2 ^ 52
+
+-- the place of a part
+part_at : (problem : OpenView) (places : List ℕ) (i : ℕ) → i < length problem.parts → places ≡ map (part_place problem.tokens) problem.parts →
+    get_or places i 0 ≡ token_place problem.tokens (get_or problem.parts i no_part).token
+part_at problem places i below places-are = ap (λ (ps : List ℕ). get_or ps i 0) places-are ∙ get_or-map (part_place problem.tokens) problem.parts i no_part 0 below
+
+pub part_place-lt : (problem : OpenView) → IsOpenProblem problem → (places : List ℕ) (i : ℕ) → i < length problem.parts →
+    places ≡ map (part_place problem.tokens) problem.parts → get_or places i 0 < 521
+part_place-lt problem sound places i below places-are =
+    omega (arith, part_at problem places i below places-are, parts_there problem sound i no_part below, tokens_few problem sound)
+
+pub gives_next : (problem : OpenView) → IsOpenProblem problem → (places held : List ℕ) (i amount : ℕ) → i < length problem.parts →
+    places ≡ map (part_place problem.tokens) problem.parts → amount ≡ (get_or problem.parts i no_part).amount → Gives problem i held →
+    Gives problem (suc i) (set held (get_or places i 0) amount)
+gives_next problem sound places held i amount below places-are amount-is gives = record {
+  long = length-set held place amount ∙ gives.long;
+  amounts = λ j there. read_set held place amount j inside
+      ∙ ap (λ (b : Bool). cond b amount (get_or held j 0)) (ap (nat_eq j) place-is ∙ sym (same_at problem.tokens (once_tokens problem sound) part.token (parts_there problem sound i no_part below) j there))
+      ∙ ap (λ (n : ℕ). cond (bytes_eq (get_or problem.tokens j []) part.token) n (get_or held j 0)) amount-is
+      ∙ ap (λ (n : ℕ). cond (bytes_eq (get_or problem.tokens j []) part.token) part.amount n) (gives.amounts j there)
+      ∙ sym (given-more problem.parts i below sound.parts.rising (get_or problem.tokens j []));
+  below = λ j. rw (read_set held place amount j inside) (small (nat_eq j place) (get_or held j 0) (gives.below j));
 }
   where
-    inside : source < length zeros
-    inside = omega (arith, source_there problem sound, tokens_few problem sound)
+    part : Part
+    part = get_or problem.parts i no_part
 
-    small : (b : Bool) (j : ℕ) → cond b d (get_or zeros j 0) ≤ 2 ^ 52 + 0 * 2 ^ 48
-    small true j = omega (arith, sound.parts.amount.1)
-    small false j = omega (arith, zero_all j)
+    place : ℕ
+    place = get_or places i 0
+
+    place-is : place ≡ token_place problem.tokens part.token
+    place-is = part_at problem places i below places-are
+
+    inside : place < length held
+    inside = omega (arith, gives.long, part_place-lt problem sound places i below places-are)
+
+    small : (b : Bool) (n : ℕ) → n ≤ 2 ^ 52 → cond b amount n ≤ 2 ^ 52
+    small true n under = omega (arith, amount-is, (sound.parts.amounts i no_part below).1)
+    small false n under = under
+
+pub follows_start : (problem : OpenView) → IsOpenProblem problem → (held : List ℕ) (unmarked : List Bool) (n : ℕ) → length problem.parts ≤ n → length unmarked ≡ 256 →
+    ((place : ℕ) → get_or unmarked place false ≡ false) → Gives problem n held → Follows problem [] held unmarked
+follows_start problem sound held unmarked n all wide false_all gives = record {
+  long = gives.long;
+  wide = wide;
+  legal = tt;
+  amounts = λ j below. gives.amounts j below ∙ ap (λ (parts : List Part). given_by_parts parts (get_or problem.tokens j [])) (take_all n problem.parts all);
+  below = λ j. omega (arith, gives.below j);
+  marks = λ place inside. ((λ _ k e below. absurd (omega arith)), λ _. false_all place);
+}
 
 abbrev pub no_places : TokenPlaces
 no_places = record { zero = 0; one = 0 }
@@ -60,7 +117,7 @@ side_places tokens pools places leg from to places-are there from-is to-is = let
     by_side false = (ap (λ (p : TokenPlaces). p.one) is, ap (λ (p : TokenPlaces). p.zero) is)
 
 -- a leg's two tokens are among those of the problem
-pub leg_tokens_there : (problem : ProblemView) → IsProblem problem → (leg : Leg) → leg.pool < length problem.pools →
+pub leg_tokens_there : (problem : OpenView) → IsOpenProblem problem → (leg : Leg) → leg.pool < length problem.pools →
     (token_place problem.tokens (token_in problem.pools leg) < length problem.tokens) × (token_place problem.tokens (token_out problem.pools leg) < length problem.tokens)
 leg_tokens_there problem sound leg there = by_side leg.zero_in
   where
@@ -73,7 +130,7 @@ leg_tokens_there problem sound leg there = by_side leg.zero_in
     by_side false = (both.1, both.0)
 
 -- an output is below its reserve
-pub output-lt : (problem : ProblemView) (used : List ℕ) (held : Holdings) (leg : Leg) → IsProblem problem → IsLeg problem.pools used held leg → leg.output < 2 ^ 48
+pub output-lt : (problem : OpenView) (used : List ℕ) (held : Holdings) (leg : Leg) → IsOpenProblem problem → IsLeg problem.pools used held leg → leg.output < 2 ^ 48
 output-lt problem used held leg sound legal = by_side leg.zero_in legal.pays
   where
     by_side : (z : Bool) → leg.output ≡ amount_out_of (fee_of (leg_pool problem.pools leg)) leg.input (cond z (leg_pool problem.pools leg).r0 (leg_pool problem.pools leg).r1) (cond z (leg_pool problem.pools leg).r1 (leg_pool problem.pools leg).r0) →
@@ -104,7 +161,7 @@ marked used p before long inside marks place within = pick (nat_eq p place) refl
         ((λ unmarked. All-cons (λ (q : ℕ). q ≢ place) p before apart ((marks place within).0 (sym kept ∙ unmarked))), λ all. kept ∙ (marks place within).1 (All-tail (λ (q : ℕ). q ≢ place) p before all))
 
 -- one leg more
-pub follows_next : (problem : ProblemView) → IsProblem problem → (legs : List Leg) (i : ℕ) → i < length legs → (held : List ℕ) (used : List Bool) →
+pub follows_next : (problem : OpenView) → IsOpenProblem problem → (legs : List Leg) (i : ℕ) → i < length legs → (held : List ℕ) (used : List Bool) →
     Follows problem (take i legs) held used → IsNext problem legs i → (from to : ℕ) →
     from ≡ token_place problem.tokens (token_in problem.pools (get_or legs i no_leg)) → to ≡ token_place problem.tokens (token_out problem.pools (get_or legs i no_leg)) →
     Follows problem (take (suc i) legs)
@@ -113,14 +170,14 @@ pub follows_next : (problem : ProblemView) → IsProblem problem → (legs : Lis
 follows_next problem sound legs i inside held used follows next from to from-is to-is = record {
   long = length-set _ to _ ∙ length-set held from _ ∙ follows.long;
   wide = length-set used leg.pool true ∙ follows.wide;
-  legal = legs-more problem.pools [] (starting_with problem) legs i inside follows.legal next;
+  legal = legs-more problem.pools [] (given problem) legs i inside follows.legal next;
   amounts = λ j below. moved held from to leg.input leg.output j from-in to-in
       ∙ ap (λ (b : Bool). (get_or held j 0 - cond b leg.input 0) + cond (nat_eq j to) leg.output 0) (ap (nat_eq j) from-is ∙ sym (same_at problem.tokens once (token_in problem.pools leg) there.0 j below))
       ∙ ap (λ (b : Bool). (get_or held j 0 - cond (bytes_eq (get_or problem.tokens j []) (token_in problem.pools leg)) leg.input 0) + cond b leg.output 0)
       (ap (nat_eq j) to-is ∙ sym (same_at problem.tokens once (token_out problem.pools leg) there.1 j below))
       ∙ ap (λ (n : ℕ). (n - cond (bytes_eq (get_or problem.tokens j []) (token_in problem.pools leg)) leg.input 0) + cond (bytes_eq (get_or problem.tokens j []) (token_out problem.pools leg)) leg.output 0)
       (follows.amounts j below)
-      ∙ sym (after_legs-more problem.pools (starting_with problem) legs i (get_or problem.tokens j []) inside);
+      ∙ sym (after_legs-more problem.pools (given problem) legs i (get_or problem.tokens j []) inside);
   below = λ j. rw (moved held from to leg.input leg.output j from-in to-in, one_more) (small (nat_eq j from) (nat_eq j to) j (follows.below j));
   marks = λ place within. rw (used_after-more [] legs i inside) (marked used leg.pool (used_after [] (take i legs)) follows.wide (omega (arith, next.there, sound.parts.few)) follows.marks place within);
 }
@@ -145,26 +202,26 @@ follows_next problem sound legs i inside held used follows next from to from-is 
 
     small : (b c : Bool) (j : ℕ) → get_or held j 0 ≤ 2 ^ 52 + length (take i legs) * 2 ^ 48 →
         (get_or held j 0 - cond b leg.input 0) + cond c leg.output 0 ≤ 2 ^ 52 + suc (length (take i legs)) * 2 ^ 48
-    small b true j low = let m = output-lt problem (used_after [] (take i legs)) (after_legs problem.pools (starting_with problem) (take i legs)) leg sound next in omega arith
+    small b true j low = let m = output-lt problem (used_after [] (take i legs)) (after_legs problem.pools (given problem) (take i legs)) leg sound next in omega arith
     small b false j low = omega arith
 
 -- what stands at the place of a token that goes in
-pub held_at : (problem : ProblemView) → IsProblem problem → (legs : List Leg) (held : List ℕ) (used : List Bool) → Follows problem legs held used →
+pub held_at : (problem : OpenView) → IsOpenProblem problem → (legs : List Leg) (held : List ℕ) (used : List Bool) → Follows problem legs held used →
     (leg : Leg) (from : ℕ) → leg.pool < length problem.pools → from ≡ token_place problem.tokens (token_in problem.pools leg) →
-    get_or held from 0 ≡ after_legs problem.pools (starting_with problem) legs (token_in problem.pools leg)
+    get_or held from 0 ≡ after_legs problem.pools (given problem) legs (token_in problem.pools leg)
 held_at problem sound legs held used follows leg from inside from-is =
     let there = (leg_tokens_there problem sound leg inside).0 in
     let token : get_or problem.tokens from [] ≡ token_in problem.pools leg = ap (λ (j : ℕ). get_or problem.tokens j []) from-is ∙ token_at problem.tokens (token_in problem.pools leg) there in
-    follows.amounts from (rw from-is there) ∙ ap (after_legs problem.pools (starting_with problem) legs) token
+    follows.amounts from (rw from-is there) ∙ ap (after_legs problem.pools (given problem) legs) token
 
 -- the output has room where it goes
-pub room_left : (problem : ProblemView) → IsProblem problem → (legs : List Leg) (i : ℕ) (held : List ℕ) (used : List Bool) → i < length legs →
+pub room_left : (problem : OpenView) → IsOpenProblem problem → (legs : List Leg) (i : ℕ) (held : List ℕ) (used : List Bool) → i < length legs →
     Follows problem (take i legs) held used → IsNext problem legs i → (from to : ℕ) → from ≡ token_place problem.tokens (token_in problem.pools (get_or legs i no_leg)) →
     get_or (set held from (get_or held from 0 - (get_or legs i no_leg).input)) to 0 + (get_or legs i no_leg).output < 2 ^ 64
 room_left problem sound legs i held used inside follows next from to from-is =
     let there = (leg_tokens_there problem sound (get_or legs i no_leg) next.there).0 in
-    let few = legs_few problem [] (starting_with problem) (take i legs) sound follows.legal in
-    let out = output-lt problem (used_after [] (take i legs)) (after_legs problem.pools (starting_with problem) (take i legs)) (get_or legs i no_leg) sound next in
+    let few = legs_few problem [] (given problem) (take i legs) sound follows.legal in
+    let out = output-lt problem (used_after [] (take i legs)) (after_legs problem.pools (given problem) (take i legs)) (get_or legs i no_leg) sound next in
     rw (read_set held from (get_or held from 0 - (get_or legs i no_leg).input) to (omega (arith, follows.long, tokens_few problem sound))) (small (nat_eq to from) few out)
   where
     small : (b : Bool) → length (take i legs) ≤ 256 → (get_or legs i no_leg).output < 2 ^ 48 →

@@ -1,18 +1,18 @@
 //! The holdings and the used pools, from leg to leg.
 ghost use Rattle.std.specs.Prelude.{◌≡◌, ◌↔◌, ◌<◌, ◌≤◌, ◌+◌, ◌^◌, [], IsTrue, length, take, slice_index, slice_index_or, ℕ, false, if◌then◌else◌};
 ghost use Rattle.amm_model.specs.Swap.{IsFee, amount_out_of};
-ghost use Rattle.amm_model.specs.Routing.{HasReserves, fee_of};
-ghost use Rattle.amm_model.specs.Legs.{IsAdmissible, IsLeg, after_legs, no_leg, starting_with, used_after};
+ghost use Rattle.amm_model.specs.Routing.{HasReserves, fee_of, given};
+ghost use Rattle.amm_model.specs.Legs.{IsAdmissible, IsLeg, after_legs, no_leg, used_after};
 ghost use Rattle.amm_legs.specs.Progress.{Follows, IsNext, IsPaid};
 
-use amm_model::{Leg, Problem, ProblemPool, TokenPlaces};
+use amm_model::{Leg, OpenProblem, ProblemPool, TokenPlaces};
 use amm_pool::amount_out;
 
 // A problem has at most so many pools.
 const MAX_POOLS: usize = 256;
 
-// And so at most so many tokens: its two ends, and two for each pool.
-const MAX_TOKENS: usize = 514;
+// And so at most so many tokens: its target, eight parts, and two for each pool.
+const MAX_TOKENS: usize = 521;
 
 // Balances with room for an update are below this.
 const ROOM: u64 = 0x1_0000_0000_0000;
@@ -26,12 +26,15 @@ pub struct Progress {
 
 impl Progress {
     /// Before the first leg.
-    pub fn start(problem: &Problem) -> Progress
+    pub fn start(problem: &OpenProblem) -> Progress
         ensures { Follows problem.now [] result.held result.used }
     {
-        let (source, _) = problem.ends();
+        let parts = problem.parts();
+        let places = problem.part_places();
         let mut held = no_amounts();
-        held[source] = problem.d();
+        for i in 0..parts.len() {
+            held[places[i]] = parts[i].amount;
+        }
         Progress {
             held,
             used: no_marks(),
@@ -39,7 +42,7 @@ impl Progress {
     }
 
     /// Takes the next leg, if it may be taken.
-    pub fn take(&mut self, problem: &Problem, legs: &[Leg], i: usize) -> bool
+    pub fn take(&mut self, problem: &OpenProblem, legs: &[Leg], i: usize) -> bool
         requires within { i < length legs.now }
         requires follows { Follows problem.now (take i legs.now) self.old.held self.old.used }
         ensures next { IsTrue result ↔ IsNext problem.now legs.now i }
@@ -53,7 +56,7 @@ impl Progress {
     }
 
     // Whether the next leg may be taken.
-    fn admits(&self, problem: &Problem, legs: &[Leg], i: usize) -> bool
+    fn admits(&self, problem: &OpenProblem, legs: &[Leg], i: usize) -> bool
         requires within { i < length legs.now }
         requires follows { Follows problem.now (take i legs.now) self.now.held self.now.used }
         ensures { IsTrue result ↔ IsNext problem.now legs.now i }
@@ -76,7 +79,7 @@ impl Progress {
     }
 
     // The next leg's amounts go from one place to another.
-    fn pass(&mut self, problem: &Problem, legs: &[Leg], i: usize)
+    fn pass(&mut self, problem: &OpenProblem, legs: &[Leg], i: usize)
         requires within { i < length legs.now }
         requires follows { Follows problem.now (take i legs.now) self.old.held self.old.used }
         requires next { IsNext problem.now legs.now i }
@@ -93,18 +96,17 @@ impl Progress {
     }
 
     /// What is held of the problem's target.
-    pub fn held_of_target(&self, problem: &Problem, legs: &[Leg]) -> u64
+    pub fn held_of_target(&self, problem: &OpenProblem, legs: &[Leg]) -> u64
         requires { Follows problem.now legs.now self.now.held self.now.used }
-        ensures { result ≡ after_legs problem.now.pools (starting_with problem.now) legs.now problem.now.t }
+        ensures { result ≡ after_legs problem.now.pools (given problem.now) legs.now problem.now.t }
     {
-        let (_, target) = problem.ends();
-        self.held[target]
+        self.held[problem.target()]
     }
 }
 
 fn no_amounts() -> [u64; MAX_TOKENS]
     ensures zero { (j : ℕ) → slice_index result j ≡ 0 }
-    ensures long { length result ≡ 514 }
+    ensures long { length result ≡ 521 }
 {
     [0; MAX_TOKENS]
 }

@@ -9,7 +9,6 @@ use Rattle.std.proofs.lemmas.Bool.{eqb-true}
 use Rattle.std.proofs.lemmas.Map.Views.{Contains-from_any}
 use Rattle.std.proofs.lemmas.Map.Steps.{length-le_from_distinct_below}
 use Rattle.std.proofs.lemmas.List.Kept.{AllPairs-cons}
-use Rattle.amm_model.proofs.Sums.{at-same, at-other}
 use Rattle.std.specs.List.{AllByRecursion}
 use Rattle.std.specs.Str.{bytes_eq}
 use Rattle.std.proofs.lemmas.Slice.Eq.{bytes_eq-Decides}
@@ -18,11 +17,11 @@ use Rattle.std.proofs.lemmas.List.Sums.{sum_by-cons}
 use Rattle.amm_model.specs.declared.problem.ProblemPool.{ProblemPool}
 use Rattle.amm_model.specs.declared.route.Leg.{Leg}
 use Rattle.amm_model.specs.Swap.{amount_out_of}
-use Rattle.amm_model.specs.Routing.{Name, ProblemView, Trade, IsProblem, HasReserves, IsTrade, IsRoute, pool_of, fee_of, put_in, taken_out, delivered_by, amount_in_token, no_pool}
-use Rattle.amm_model.specs.Legs.{Holdings, IsLeg, AreLegs, after_leg, after_legs, starting_with, trade_of, token_in, leg_pool, reserve_in, reserve_out}
+use Rattle.amm_model.specs.Routing.{Name, OpenView, Trade, IsOpenProblem, HasReserves, given, IsTrade, IsRoute, pool_of, fee_of, put_in, taken_out, delivered_by, amount_in_token, no_pool}
+use Rattle.amm_model.specs.Legs.{Holdings, IsLeg, AreLegs, after_leg, after_legs, trade_of, token_in, leg_pool, reserve_in, reserve_out}
 use Rattle.std.proofs.Math.Nat.{mul-zero, sub-zero, add-zero}
 use Rattle.amm_model.proofs.Swap.{fee_range, greatest_output, amount_out-lt}
-use Rattle.amm_model.proofs.Problems.{fee_of-is}
+use Rattle.amm_model.proofs.Problems.{fee_of-is, none_given}
 
 -- what is held of a token, where x of it may go in and w of it may come out
 balance_of : (h x w : ℕ) (b c : Bool) → (b ≡ true → x ≤ h) → h + (cond b 0 0 + cond c w 0) ≡ ((h - cond b x 0) + cond c w 0) + (cond b x 0 + cond c 0 0)
@@ -124,7 +123,7 @@ legs_apart pools used held (leg ∷ legs) legal =
     (legs_apart pools (leg.pool ∷ used) (after_leg pools held leg) legs legal.1)
 
 -- so there are no more legs than pools
-pub legs_few : (problem : ProblemView) (used : List ℕ) (held : Holdings) (legs : List Leg) → IsProblem problem → AreLegs problem.pools used held legs → length legs ≤ 256
+pub legs_few : (problem : OpenView) (used : List ℕ) (held : Holdings) (legs : List Leg) → IsOpenProblem problem → AreLegs problem.pools used held legs → length legs ≤ 256
 legs_few problem used held legs sound legal =
     let apart = legs_apart problem.pools used held legs legal in
     let places = map (λ (t : Trade). t.place) (map trade_of legs) in
@@ -149,27 +148,20 @@ legs_few problem used held legs sound legal =
     differ : (a b : ℕ) → a ≢ b → nat_eq a b ≡ false
     differ a b apart = grind (arith, nat_tests)
 
-start_is : (problem : ProblemView) → starting_with problem problem.s ≡ problem.d
-start_is problem = at-same bytes_eq bytes_eq-Decides problem.s problem.d
-
-start_of_other : (problem : ProblemView) (y : Name) → y ≢ problem.s → starting_with problem y ≡ 0
-start_of_other problem y apart = at-other bytes_eq bytes_eq-Decides problem.s problem.d y apart
-
 -- a leg-by-leg route is a route, leg for trade
-pub legs_are_route : (problem : ProblemView) (legs : List Leg) → IsProblem problem → AreLegs problem.pools [] (starting_with problem) legs → IsRoute problem (map trade_of legs)
+pub legs_are_route : (problem : OpenView) (legs : List Leg) → IsOpenProblem problem → AreLegs problem.pools [] (given problem) legs → IsRoute problem (map trade_of legs)
 legs_are_route problem legs sound legal =
-    let balance = legs_balance problem.pools [] (starting_with problem) legs legal in
+    let balance = legs_balance problem.pools [] (given problem) legs legal in
     record {
-      once = legs_apart problem.pools [] (starting_with problem) legs legal;
-      trades = All-from_recursion (IsTrade problem.pools) (map trade_of legs) (legs_are_trades problem.pools [] (starting_with problem) legs sound.parts.reserves legal);
-      spends = (let b = balance problem.s in let e = start_is problem in omega arith);
-      covers = λ token apart. (let b = balance token in let e = start_of_other problem token apart in omega arith);
+      once = legs_apart problem.pools [] (given problem) legs legal;
+      trades = All-from_recursion (IsTrade problem.pools) (map trade_of legs) (legs_are_trades problem.pools [] (given problem) legs sound.parts.reserves legal);
+      covers = λ token. (let b = balance token in omega arith);
     }
 
 -- and it delivers the same
-pub legs_deliver : (problem : ProblemView) (legs : List Leg) → IsProblem problem → AreLegs problem.pools [] (starting_with problem) legs →
-    delivered_by problem (map trade_of legs) ≡ after_legs problem.pools (starting_with problem) legs problem.t
+pub legs_deliver : (problem : OpenView) (legs : List Leg) → IsOpenProblem problem → AreLegs problem.pools [] (given problem) legs →
+    delivered_by problem (map trade_of legs) ≡ after_legs problem.pools (given problem) legs problem.t
 legs_deliver problem legs sound legal =
-    let b = legs_balance problem.pools [] (starting_with problem) legs legal problem.t in
-    let e = start_of_other problem problem.t (λ h. sound.parts.apart (sym h)) in
+    let b = legs_balance problem.pools [] (given problem) legs legal problem.t in
+    let e = none_given problem.parts problem.t sound.parts.apart in
     omega arith

@@ -1,5 +1,5 @@
 -- Names in order, and what follows for the tokens of a problem.
-use Rattle.std.proofs.Common.{◌≡◌, ◌≢◌, ◌⊎◌, ℕ, ◌+◌, ◌-◌, ◌*◌, ◌<◌, ◌≤◌, inl, inr, zero, suc, Bool, true, false, cond, ◌&&◌, List, [], ◌∷◌, ◌++◌, length, take, get_or, map, arith, refl, sym, ap, subst, ◌∙◌}
+use Rattle.std.proofs.Common.{◌≡◌, ◌≢◌, ◌⊎◌, ℕ, ◌+◌, ◌-◌, ◌*◌, ◌<◌, ◌≤◌, inl, inr, zero, suc, Bool, true, false, cond, nat_eq, ◌&&◌, List, [], ◌∷◌, ◌++◌, length, take, get_or, map, arith, refl, sym, ap, subst, ◌∙◌}
 use Rattle.std.specs.Prelude.{◌↔◌, ◌==◌, codes, AllPairs, All, Contains, IsTrue}
 use Rattle.std.specs.declared.cmp.Ordering.{Ordering}
 use Rattle.std.specs.declared.cmp.Ordering.TheVariants.{Less, Equal, Greater}
@@ -8,21 +8,25 @@ use Rattle.std.specs.Str.{bytes_eq}
 use Rattle.std.specs.Cmp.Lexicographic.{slice_cmp, nat_list_cmp_total, nat_list_eq_equiv, texts_ties}
 use Rattle.std.specs.List.{after_first, dedup}
 use Rattle.std.specs.List.Sorted.{IsSorted, IsPermutation, IsStrictlySortedBy}
-use Rattle.std.proofs.lemmas.List.Elements.{All-from_recursion}
+use Rattle.std.proofs.lemmas.List.Elements.{All-from_recursion, All-tail, Contains-append_left, Contains-append_right}
 use Rattle.std.proofs.lemmas.List.Kept.{AllPairs-cons, Contains-dedup, Contains-from_dedup, IsStrictlySortedBy-dedup}
 use Rattle.std.proofs.lemmas.List.Sorted.{Contains-permutation, IsPermutation-sym}
-use Rattle.std.proofs.lemmas.List.Sums.{fails_before_first}
+use Rattle.std.proofs.lemmas.List.Sums.{fails_before_first, passes_at_first}
+use Rattle.std.proofs.lemmas.Bool.Decides.{nat_tests}
+use Rattle.std.specs.Cmp.{both_ways}
 use Rattle.std.proofs.lemmas.Bool.{cases_lt, true≢false}
 use Rattle.std.proofs.lemmas.Map.Keys.{IsDistinct-from_apart}
 use Rattle.std.proofs.lemmas.Map.Made.{is_member-Decides, length-le_from_is_member}
 use Rattle.std.proofs.lemmas.List.{get_or-map}
 use Rattle.std.proofs.Math.ListN.{length-map}
+use Rattle.std.proofs.lemmas.List.{length-append}
 use Rattle.std.proofs.lemmas.Slice.Eq.{bytes_eq-Decides}
 use Rattle.amm_model.specs.declared.problem.TokenPlaces.{TokenPlaces}
+use Rattle.amm_model.specs.declared.problem.Part.{Part}
 use Rattle.amm_model.specs.declared.problem.ProblemPool.{ProblemPool}
 use Rattle.amm_names.specs.Pools.{is_pool_name, fee_of_digits, pool_fee}
 use Rattle.amm_model.specs.Swap.{IsFee}
-use Rattle.amm_model.specs.Routing.{Name, ProblemView, IsProblem, IsProblemOf, IsBefore, fee_of, token0_of, token1_of, tokens_of_pools, tokens_named, token_place, places_of, no_pool}
+use Rattle.amm_model.specs.Routing.{Name, OpenView, ProblemView, IsOpenProblem, IsOpenProblemOf, IsProblemOf, IsBefore, fee_of, given_by_parts, one_part, opened, part_place, token0_of, token1_of, tokens_of_pools, tokens_named, token_place, places_of, no_pool}
 
 pub before-less : (a b : Name) → IsBefore a b → slice_cmp nat_cmp a b ≡ Less
 before-less a b before = pick (slice_cmp nat_cmp a b) before
@@ -95,7 +99,7 @@ tokens_kept named xs ys moved is token = (
 
 -- ---- what the tokens of a problem are
 
-pub once_tokens : (problem : ProblemView) → IsProblem problem → AllPairs (λ (a b : Name). a ≢ b) problem.tokens
+pub once_tokens : (problem : OpenView) → IsOpenProblem problem → AllPairs (λ (a b : Name). a ≢ b) problem.tokens
 once_tokens problem sound i j d ij below = before-apart _ _ (sound.ascending i j d ij below)
 
 -- a token of the list has a place in it
@@ -109,11 +113,56 @@ place-lt_from_Contains tokens name (k, below, is) = pick (cases_lt (token_place 
         let passes = (bytes_eq-Decides name (get_or tokens k name)).1 (sym is) in
         absurd (true≢false (sym passes ∙ fails))
 
-pub source_there : (problem : ProblemView) → IsProblem problem → token_place problem.tokens problem.s < length problem.tokens
-source_there problem sound = place-lt_from_Contains problem.tokens problem.s ((sound.tokens problem.s).1 (0, omega arith, refl))
+abbrev pub no_part : Part
+no_part = record { token = []; amount = 0 }
 
-pub target_there : (problem : ProblemView) → IsProblem problem → token_place problem.tokens problem.t < length problem.tokens
-target_there problem sound = place-lt_from_Contains problem.tokens problem.t ((sound.tokens problem.t).1 (1, omega arith, refl))
+pub parts_there : (problem : OpenView) → IsOpenProblem problem → All (λ (part : Part). token_place problem.tokens part.token < length problem.tokens) problem.parts
+parts_there problem sound k d below =
+    place-lt_from_Contains problem.tokens (get_or problem.parts k d).token
+    ((sound.tokens (get_or problem.parts k d).token).1 (later (Contains-append_left (map (λ (part : Part). part.token) problem.parts) (tokens_of_pools problem.pools) (get_or problem.parts k d).token
+    (k, rw length-map below, get_or-map (λ (part : Part). part.token) problem.parts k d (get_or problem.parts k d).token below))))
+  where
+    later : {x : Name} → Contains (map (λ (part : Part). part.token) problem.parts ++ tokens_of_pools problem.pools) x → Contains (tokens_named problem.parts problem.t problem.pools) x
+    later (i, within, is) = (suc i, omega arith, is)
+
+pub target_there : (problem : OpenView) → IsOpenProblem problem → token_place problem.tokens problem.t < length problem.tokens
+target_there problem sound = place-lt_from_Contains problem.tokens problem.t ((sound.tokens problem.t).1 (0, omega arith, refl))
+
+-- so the places of the parts' tokens are within the tokens
+pub part_places_there : (problem : OpenView) → IsOpenProblem problem → All (λ (place : ℕ). place < length problem.tokens) (map (part_place problem.tokens) problem.parts)
+part_places_there problem sound k d below =
+    let inside : k < length problem.parts = rw length-map at below in
+    rw (get_or-map (part_place problem.tokens) problem.parts k no_part d inside) (parts_there problem sound k no_part inside)
+
+-- the token at its own place
+pub token_at : (tokens : List Name) (name : Name) → token_place tokens name < length tokens → get_or tokens (token_place tokens name) [] ≡ name
+token_at tokens name there = sym ((bytes_eq-Decides name (get_or tokens (token_place tokens name) [])).0 (passes_at_first (bytes_eq name) tokens [] there))
+
+-- a token is at its place, and at no other
+pub same_at : (tokens : List Name) → AllPairs (λ (a b : Name). a ≢ b) tokens → (name : Name) → token_place tokens name < length tokens →
+    (j : ℕ) → j < length tokens → bytes_eq (get_or tokens j []) name ≡ nat_eq j (token_place tokens name)
+same_at tokens once name there j below = both_ways _ _ to back
+  where
+    found : get_or tokens (token_place tokens name) [] ≡ name
+    found = token_at tokens name there
+
+    back : nat_eq j (token_place tokens name) ≡ true → bytes_eq (get_or tokens j []) name ≡ true
+    back e =
+        let same : j ≡ token_place tokens name = grind (arith, nat_tests) in
+        (bytes_eq-Decides (get_or tokens j []) name).1 (ap (λ (k : ℕ). get_or tokens k []) same ∙ found)
+
+    apart : get_or tokens j [] ≡ name → j ≢ token_place tokens name → ⊥
+    apart e differ = elim (cases_lt j (token_place tokens name)) [
+      | inl lt ↦ once j (token_place tokens name) [] lt there (e ∙ sym found)
+      | inr ge ↦ once (token_place tokens name) j [] (omega arith) below (found ∙ sym e)
+    ]
+
+    pick : (c : Bool) → nat_eq j (token_place tokens name) ≡ c → get_or tokens j [] ≡ name → c ≡ true
+    pick true t e = refl
+    pick false t e = absurd (apart e (grind (arith, nat_tests)))
+
+    to : bytes_eq (get_or tokens j []) name ≡ true → nat_eq j (token_place tokens name) ≡ true
+    to e = pick (nat_eq j (token_place tokens name)) refl ((bytes_eq-Decides (get_or tokens j []) name).0 e)
 
 -- the tokens of pools have those of each
 pool_tokens_in : (pools : List ProblemPool) (k : ℕ) (d : ProblemPool) → k < length pools →
@@ -127,29 +176,38 @@ pool_tokens_in (pool ∷ pools) (suc k) d below =
     later : (x : Name) → Contains (tokens_of_pools pools) x → Contains (tokens_of_pools (pool ∷ pools)) x
     later x (i, within, is) = (suc (suc i), omega arith, is)
 
-pub tokens_there : (problem : ProblemView) → IsProblem problem →
+pub tokens_there : (problem : OpenView) → IsOpenProblem problem →
     All (λ (pool : ProblemPool). (token_place problem.tokens (token0_of pool) < length problem.tokens) × (token_place problem.tokens (token1_of pool) < length problem.tokens)) problem.pools
 tokens_there problem sound k d below =
     let has = pool_tokens_in problem.pools k d below in
     (there (token0_of (get_or problem.pools k d)) has.0, there (token1_of (get_or problem.pools k d)) has.1)
   where
-    later : (x : Name) → Contains (tokens_of_pools problem.pools) x → Contains (tokens_named problem) x
-    later x (i, within, is) = (suc (suc i), omega arith, is)
+    later : (x : Name) → Contains (map (λ (part : Part). part.token) problem.parts ++ tokens_of_pools problem.pools) x → Contains (tokens_named problem.parts problem.t problem.pools) x
+    later x (i, within, is) = (suc i, omega arith, is)
 
     there : (x : Name) → Contains (tokens_of_pools problem.pools) x → token_place problem.tokens x < length problem.tokens
-    there x has = place-lt_from_Contains problem.tokens x ((sound.tokens x).1 (later x has))
+    there x has = place-lt_from_Contains problem.tokens x ((sound.tokens x).1 (later x (Contains-append_right (map (λ (part : Part). part.token) problem.parts) (tokens_of_pools problem.pools) x has)))
 
 -- so the places of the pools' tokens are within the tokens
-pub places_there : (problem : ProblemView) → IsProblem problem →
+pub places_there : (problem : OpenView) → IsOpenProblem problem →
     All (λ (at : TokenPlaces). (at.zero < length problem.tokens) × (at.one < length problem.tokens)) (map (places_of problem.tokens) problem.pools)
 places_there problem sound k d below =
     let inside : k < length problem.pools = rw length-map at below in
     let is = get_or-map (places_of problem.tokens) problem.pools k no_pool d inside in
     rw is (tokens_there problem sound k no_pool inside)
 
--- two tokens, and at most two for each of at most 256 pools
-pub tokens_few : (problem : ProblemView) → IsProblem problem → length problem.tokens ≤ 514
-tokens_few problem sound = omega (arith, within, named problem.pools, sound.parts.few)
+-- the target, at most eight parts, and at most two for each of at most 256 pools
+pub tokens_few : (problem : OpenView) → IsOpenProblem problem → length problem.tokens ≤ 521
+tokens_few problem sound =
+    omega (
+      arith,
+      within,
+      named problem.pools,
+      length-append (map (λ (part : Part). part.token) problem.parts) (tokens_of_pools problem.pools),
+      length-map problem.parts (λ (part : Part). part.token),
+      sound.parts.few,
+      sound.parts.few_parts,
+    )
   where
     named : (pools : List ProblemPool) → length (tokens_of_pools pools) ≡ 2 * length pools
     named [] = refl
@@ -162,10 +220,10 @@ tokens_few problem sound = omega (arith, within, named problem.pools, sound.part
         pick true says = absurd (apart (says refl))
         pick false says = refl
 
-    within : length problem.tokens ≤ length (tokens_named problem)
-    within = length-le_from_is_member nat_list_eq_equiv problem.tokens (tokens_named problem)
+    within : length problem.tokens ≤ length (tokens_named problem.parts problem.t problem.pools)
+    within = length-le_from_is_member nat_list_eq_equiv problem.tokens (tokens_named problem.parts problem.t problem.pools)
         (IsDistinct-from_apart bytes_eq problem.tokens (λ i j d ij below. differ _ _ (once_tokens problem sound i j d ij below)))
-        (λ q has. (is_member-Decides bytes_eq-Decides (tokens_named problem) q).1 ((sound.tokens q).0 ((is_member-Decides bytes_eq-Decides problem.tokens q).0 has)))
+        (λ q has. (is_member-Decides bytes_eq-Decides (tokens_named problem.parts problem.t problem.pools) q).1 ((sound.tokens q).0 ((is_member-Decides bytes_eq-Decides problem.tokens q).0 has)))
 
 -- every fee that a name spells is one of the three
 digits_fee : (digits : List ℕ) → IsFee (fee_of_digits digits)
@@ -232,20 +290,19 @@ ascending-same (x ∷ xs) (y ∷ ys) up down same =
     pick (inr less) (inl e) = e
     pick (inr less) (inr more) = absurd (before-apart x x (before-trans x y x more.0 less.0) refl)
 
-same_problem : (p q : ProblemView) → p.s ≡ q.s → p.t ≡ q.t → p.d ≡ q.d → p.tokens ≡ q.tokens → p.pools ≡ q.pools → p ≡ q
-same_problem p q s t d tokens pools =
-    ap (λ (n : Name). record { s = n; t = p.t; d = p.d; tokens = p.tokens; pools = p.pools }) s
-    ∙ ap (λ (n : Name). record { s = q.s; t = n; d = p.d; tokens = p.tokens; pools = p.pools }) t
-    ∙ ap (λ (n : ℕ). record { s = q.s; t = q.t; d = n; tokens = p.tokens; pools = p.pools }) d
-    ∙ ap (λ (n : List Name). record { s = q.s; t = q.t; d = q.d; tokens = n; pools = p.pools }) tokens
-    ∙ ap (λ (n : List ProblemPool). record { s = q.s; t = q.t; d = q.d; tokens = q.tokens; pools = n }) pools
+same_problem : (p q : OpenView) → p.parts ≡ q.parts → p.t ≡ q.t → p.tokens ≡ q.tokens → p.pools ≡ q.pools → p ≡ q
+same_problem p q parts t tokens pools =
+    ap (λ (l : List Part). record { parts = l; t = p.t; tokens = p.tokens; pools = p.pools }) parts
+    ∙ ap (λ (n : Name). record { parts = q.parts; t = n; tokens = p.tokens; pools = p.pools }) t
+    ∙ ap (λ (n : List Name). record { parts = q.parts; t = q.t; tokens = n; pools = p.pools }) tokens
+    ∙ ap (λ (n : List ProblemPool). record { parts = q.parts; t = q.t; tokens = q.tokens; pools = n }) pools
 
-pub one_problem : (s t : Name) (d : ℕ) (pools : List ProblemPool) (p q : ProblemView) → IsProblemOf s t d pools p → IsProblemOf s t d pools q → p ≡ q
-one_problem s t d pools p q of_p of_q =
-    same_problem p q source target (of_p.amount ∙ sym of_q.amount) (ascending-same p.tokens q.tokens of_p.sound.ascending of_q.sound.ascending same) over
+pub one_open_problem : (parts : List Part) (t : Name) (pools : List ProblemPool) (p q : OpenView) → IsOpenProblemOf parts t pools p → IsOpenProblemOf parts t pools q → p ≡ q
+one_open_problem parts t pools p q of_p of_q =
+    same_problem p q sources target (ascending-same p.tokens q.tokens of_p.sound.ascending of_q.sound.ascending same) over
   where
-    source : p.s ≡ q.s
-    source = of_p.source ∙ sym of_q.source
+    sources : p.parts ≡ q.parts
+    sources = of_p.sources ∙ sym of_q.sources
 
     target : p.t ≡ q.t
     target = of_p.target ∙ sym of_q.target
@@ -253,11 +310,25 @@ one_problem s t d pools p q of_p of_q =
     over : p.pools ≡ q.pools
     over = of_p.over ∙ sym of_q.over
 
-    named : tokens_named p ≡ tokens_named q
-    named = ap (λ (n : Name). n ∷ p.t ∷ tokens_of_pools p.pools) source ∙ ap (λ (n : Name). q.s ∷ n ∷ tokens_of_pools p.pools) target ∙ ap (λ (l : List ProblemPool). q.s ∷ q.t ∷ tokens_of_pools l) over
+    named : tokens_named p.parts p.t p.pools ≡ tokens_named q.parts q.t q.pools
+    named = ap (λ (l : List Part). tokens_named l p.t p.pools) sources ∙ ap (λ (n : Name). tokens_named q.parts n p.pools) target ∙ ap (λ (l : List ProblemPool). tokens_named q.parts q.t l) over
 
     same : (z : Name) → Contains p.tokens z ↔ Contains q.tokens z
     same z = (
       λ has. (of_q.sound.tokens z).1 (subst (λ (l : List Name). Contains l z) named ((of_p.sound.tokens z).0 has)),
       λ has. (of_p.sound.tokens z).1 (subst (λ (l : List Name). Contains l z) (sym named) ((of_q.sound.tokens z).0 has)),
     )
+
+pub one_problem : (s t : Name) (d : ℕ) (pools : List ProblemPool) (p q : ProblemView) → IsProblemOf s t d pools p → IsProblemOf s t d pools q → p ≡ q
+one_problem s t d pools p q of_p of_q =
+    ap (λ (o : OpenView). record { s = (get_or o.parts 0 no_part).token; t = o.t; d = (get_or o.parts 0 no_part).amount; tokens = o.tokens; pools = o.pools })
+    (one_open_problem (one_part s d) t pools (opened p) (opened q) of_p of_q)
+
+-- nothing is given of a token of no part
+pub none_given : (parts : List Part) (y : Name) → All (λ (part : Part). part.token ≢ y) parts → given_by_parts parts y ≡ 0
+none_given [] y apart = refl
+none_given (part ∷ parts) y apart = pick (bytes_eq y part.token) (bytes_eq-Decides y part.token).0 (none_given parts y (All-tail (λ (p : Part). p.token ≢ y) part parts apart))
+  where
+    pick : (b : Bool) → (b ≡ true → y ≡ part.token) → given_by_parts parts y ≡ 0 → cond b part.amount (given_by_parts parts y) ≡ 0
+    pick true says rest = absurd (apart 0 part (omega arith) (sym (says refl)))
+    pick false says rest = rest

@@ -2,7 +2,8 @@
 use Rattle.std.specs.Prelude.{ℕ, ◌+◌, ◌-◌, ◌*◌, ◌/◌, ◌^◌, List, slice_index, sum_by, nat_lt, if◌then◌else◌}
 use Rattle.amm_model.specs.Root.{root_of}
 use Rattle.amm_model.specs.Swap.{input_weight}
-use Rattle.amm_model.specs.Routing.{Name, ProblemView, fee_of, token0_of, token1_of, token_place}
+use Rattle.amm_model.specs.Routing.{Name, OpenView, fee_of, token0_of, token1_of, token_place}
+use Rattle.amm_model.specs.declared.problem.Part.{Part}
 use Rattle.amm_model.specs.declared.problem.ProblemPool.{ProblemPool}
 
 -- Twice the geometric mean of a and b, rounded down: the roots have fifteen more binary places.
@@ -32,7 +33,11 @@ price_of tokens prices name = slice_index prices (token_place tokens name)
 abbrev pub pool_worth : List Name → List ℕ → ProblemPool → ℕ
 pool_worth tokens prices pool = worth_of (fee_of pool) pool.r0 pool.r1 (price_of tokens prices (token0_of pool)) (price_of tokens prices (token1_of pool))
 
+-- What a part is worth at the price of its token.
+abbrev pub part_value : List Name → List ℕ → Part → ℕ
+part_value tokens prices part = price_of tokens prices part.token * part.amount
+
 -- The bound: what is given and all worths, at the prices, in units of t.
-abbrev pub bound_of : ProblemView → List ℕ → ℕ
+abbrev pub bound_of : OpenView → List ℕ → ℕ
 bound_of problem prices =
-    (price_of problem.tokens prices problem.s * problem.d + sum_by (pool_worth problem.tokens prices) problem.pools) / price_of problem.tokens prices problem.t
+    (sum_by (part_value problem.tokens prices) problem.parts + sum_by (pool_worth problem.tokens prices) problem.pools) / price_of problem.tokens prices problem.t

@@ -4,7 +4,7 @@ use Rattle.std.specs.Str.{bytes_eq}
 use Rattle.amm_model.specs.Swap.{amount_out_of}
 use Rattle.amm_model.specs.declared.problem.ProblemPool.{ProblemPool}
 use Rattle.amm_model.specs.declared.route.Leg.{Leg}
-use Rattle.amm_model.specs.Routing.{Name, ProblemView, Trade, no_pool, fee_of, token0_of, token1_of}
+use Rattle.amm_model.specs.Routing.{Name, OpenView, Trade, given, no_pool, fee_of, token0_of, token1_of}
 
 -- The pool of a leg.
 abbrev pub leg_pool : List ProblemPool → Leg → ProblemPool
@@ -27,13 +27,9 @@ reserve_out pools leg = if leg.zero_in then (leg_pool pools leg).r1 else (leg_po
 abbrev pub balance_in : List ProblemPool → Leg → ℕ
 balance_in pools leg = if leg.zero_in then (leg_pool pools leg).b0 else (leg_pool pools leg).b1
 
--- What is held of each token.
+-- What is held of each token. At first it is what is given.
 abbrev pub Holdings : Type 0
 Holdings = Name → ℕ
-
--- At first d of s is held, and nothing else.
-abbrev pub starting_with : ProblemView → Holdings
-starting_with problem token = if bytes_eq token problem.s then problem.d else 0
 
 -- The holdings lose the input and gain the output.
 abbrev pub after_leg : List ProblemPool → Holdings → Leg → Holdings
@@ -66,8 +62,8 @@ after_legs pools held [] = held
 after_legs pools held (leg ∷ legs) = after_legs pools (after_leg pools held leg) legs
 
 -- The legs are a leg-by-leg route of the problem, and the last holdings of t are this amount.
-abbrev pub Delivers : ProblemView → List Leg → ℕ → Type 0
-Delivers problem legs amount = AreLegs problem.pools [] (starting_with problem) legs × (amount ≡ after_legs problem.pools (starting_with problem) legs problem.t)
+abbrev pub Delivers : OpenView → List Leg → ℕ → Type 0
+Delivers problem legs amount = AreLegs problem.pools [] (given problem) legs × (amount ≡ after_legs problem.pools (given problem) legs problem.t)
 
 -- The trade that a leg is.
 abbrev pub trade_of : Leg → Trade

@@ -26,3 +26,6 @@ pub mod Later
 pub mod Certificate
 pub mod Fits
 pub mod Router
+pub mod Paths
+pub mod Settled
+pub mod Values

@@ -1,20 +1,35 @@
--- The routing problem: how much of one token to bring to another, over which pools; and the routes that answer it. (EC 2022, section 2, in whole numbers)
-use Rattle.std.specs.Prelude.{IsTrue, ℕ, ◌≡◌, ◌≢◌, ◌↔◌, ◌+◌, ◌-◌, ◌^◌, ◌<◌, ◌≤◌, List, [], ◌∷◌, length, slice_index_or, sum_by, Contains, AllPairs, All, if◌then◌else◌, refl}
+-- The routing problem: how much of which tokens to bring to another, over which pools; and the routes that answer it. (EC 2022, section 2, in whole numbers)
+use Rattle.std.specs.Prelude.{IsTrue, ℕ, ◌≡◌, ◌≢◌, ◌↔◌, ◌+◌, ◌-◌, ◌^◌, ◌<◌, ◌≤◌, List, [], ◌∷◌, ◌++◌, length, map, slice_index_or, sum_by, Contains, AllPairs, All, if◌then◌else◌, refl}
 use Rattle.std.specs.Coded.{Coded, code_by, coded×, coded_ℕ, coded_list}
 use Rattle.std.specs.Str.{bytes_eq}
 use Rattle.std.specs.List.{position_or_len}
 use Rattle.amm_names.specs.Names.{is_token_name}
 use Rattle.amm_names.specs.Pools.{is_before, is_pool_name, pool_token0, pool_token1, pool_fee}
 use Rattle.amm_model.specs.Swap.{Admits}
+use Rattle.amm_model.specs.declared.problem.Part.{Part}
 use Rattle.amm_model.specs.declared.problem.ProblemPool.{ProblemPool}
 use Rattle.amm_model.specs.declared.problem.TokenPlaces.{TokenPlaces}
+use Rattle.amm_model.specs.contracts.problem.Part as part
 use Rattle.amm_model.specs.contracts.problem.ProblemPool as pool
 
 -- A name, as its bytes.
 abbrev pub Name : Type 0
 Name = List ℕ
 
--- Bring d of s to t, over the pools. The tokens are s, t and those of the pools.
+-- Bring the parts, each so much of a token, to t, over the pools. The tokens are t, those of the parts and those of the pools.
+pub record OpenView : Type 0 where
+  pub parts : List Part
+  pub t : List ℕ
+  pub tokens : List (List ℕ)
+  pub pools : List ProblemPool
+
+abbrev pub open_code : Coded OpenView
+open_code =
+    code_by (List Part × (List ℕ × (List (List ℕ) × List ProblemPool)))
+    (coded× (coded_list part.the_row.coded) (coded× (coded_list coded_ℕ) (coded× (coded_list (coded_list coded_ℕ)) (coded_list pool.the_row.coded))))
+    (λ p. (p.parts, (p.t, (p.tokens, p.pools)))) (λ p. record { parts = p.0; t = p.1.0; tokens = p.1.1.0; pools = p.1.1.1 }) (λ _. refl)
+
+-- Bring d of s to t, over the pools.
 pub record ProblemView : Type 0 where
   pub s : List ℕ
   pub t : List ℕ
@@ -59,39 +74,61 @@ HasBalances pool = (pool.r0 ≤ pool.b0) × (pool.b0 < 2 ^ 52) × (pool.r1 ≤ p
 
 -- ---- problems
 
--- What a problem can be made of: two tokens, an amount of 1 to 2^52-1, and at most 256 pools in the order of their names.
-pub record AreParts (s t : Name) (d : ℕ) (pools : List ProblemPool) : Type 0 where
-  pub apart : s ≢ t
-  pub amount : (1 ≤ d) × (d < 2 ^ 52)
+-- What a problem can be made of: at most eight parts of 1 to 2^52-1 each, in the order of their tokens, none of which is t, and at most 256 pools in the order of their names.
+pub record AreOpenParts (parts : List Part) (t : Name) (pools : List ProblemPool) : Type 0 where
+  pub few_parts : length parts ≤ 8
+  pub rising : AllPairs (λ (a b : Part). IsBefore a.token b.token) parts
+  pub apart : All (λ (part : Part). part.token ≢ t) parts
+  pub amounts : All (λ (part : Part). (1 ≤ part.amount) × (part.amount < 2 ^ 52)) parts
   pub few : length pools ≤ 256
   pub names : AllPairs (λ (a b : ProblemPool). IsBefore a.name b.name) pools
   pub reserves : All HasReserves pools
   pub balances : All HasBalances pools
 
 -- The tokens that a problem speaks of.
-abbrev pub tokens_named : ProblemView → List Name
-tokens_named problem = problem.s ∷ problem.t ∷ tokens_of_pools problem.pools
+abbrev pub tokens_named : List Part → Name → List ProblemPool → List Name
+tokens_named parts t pools = t ∷ (map (λ (part : Part). part.token) parts ++ tokens_of_pools pools)
 
 -- All names are spelled as names are.
-pub record AreSpelled (s t : Name) (pools : List ProblemPool) : Type 0 where
-  pub source : IsTrue (is_token_name s)
+pub record AreSpelled (parts : List Part) (t : Name) (pools : List ProblemPool) : Type 0 where
+  pub sources : All (λ (part : Part). IsTrue (is_token_name part.token)) parts
   pub target : IsTrue (is_token_name t)
   pub each : All (λ (pool : ProblemPool). IsTrue (is_pool_name pool.name)) pools
 
 -- A problem: its tokens are those that it speaks of, each once, in the order of their names.
-pub record IsProblem (problem : ProblemView) : Type 0 where
-  pub parts : AreParts problem.s problem.t problem.d problem.pools
-  pub spelled : AreSpelled problem.s problem.t problem.pools
+pub record IsOpenProblem (problem : OpenView) : Type 0 where
+  pub parts : AreOpenParts problem.parts problem.t problem.pools
+  pub spelled : AreSpelled problem.parts problem.t problem.pools
   pub ascending : AllPairs IsBefore problem.tokens
-  pub tokens : (token : Name) → Contains problem.tokens token ↔ Contains (tokens_named problem) token
+  pub tokens : (token : Name) → Contains problem.tokens token ↔ Contains (tokens_named problem.parts problem.t problem.pools) token
 
 -- The problem of these parts.
-pub record IsProblemOf (s t : Name) (d : ℕ) (pools : List ProblemPool) (problem : ProblemView) : Type 0 where
-  pub source : problem.s ≡ s
+pub record IsOpenProblemOf (parts : List Part) (t : Name) (pools : List ProblemPool) (problem : OpenView) : Type 0 where
+  pub sources : problem.parts ≡ parts
   pub target : problem.t ≡ t
-  pub amount : problem.d ≡ d
   pub over : problem.pools ≡ pools
-  pub sound : IsProblem problem
+  pub sound : IsOpenProblem problem
+
+-- ---- problems with a single part
+
+-- The one part of d of s.
+abbrev pub one_part : Name → ℕ → List Part
+one_part s d = record { token = s; amount = d } ∷ []
+
+-- What there is to bring is the one part.
+abbrev pub opened : ProblemView → OpenView
+opened problem = record { parts = one_part problem.s problem.d; t = problem.t; tokens = problem.tokens; pools = problem.pools }
+
+abbrev pub AreParts : (s t : Name) → (d : ℕ) → List ProblemPool → Type 0
+AreParts s t d pools = AreOpenParts (one_part s d) t pools
+
+abbrev pub IsProblem : ProblemView → Type 0
+IsProblem problem = IsOpenProblem (opened problem)
+
+abbrev pub IsProblemOf : (s t : Name) → (d : ℕ) → List ProblemPool → ProblemView → Type 0
+IsProblemOf s t d pools problem = IsOpenProblemOf (one_part s d) t pools (opened problem)
+
+-- ---- prices and places
 
 -- Each price is 1 to 2^40-1.
 abbrev pub ArePrices : List ℕ → Type 0
@@ -100,6 +137,10 @@ ArePrices prices = All (λ (price : ℕ). (1 ≤ price) × (price < 2 ^ 40)) pri
 -- Where a token stands among the tokens; their number, where it is none of them.
 abbrev pub token_place : List Name → Name → ℕ
 token_place tokens name = position_or_len (bytes_eq name) tokens
+
+-- Where the token of a part stands.
+abbrev pub part_place : List Name → Part → ℕ
+part_place tokens part = token_place tokens part.token
 
 -- Where the tokens of a pool stand.
 abbrev pub places_of : List Name → ProblemPool → TokenPlaces
@@ -141,13 +182,20 @@ put_in pools route token = sum_by (λ (trade : Trade). amount_in_token token (po
 abbrev pub taken_out : List ProblemPool → List Trade → Name → ℕ
 taken_out pools route token = sum_by (λ (trade : Trade). amount_in_token token (pool_of pools trade) trade.out0 trade.out1) route
 
--- Each pool at most once, each trade by its rule; at most d of s is spent, and of every other token no more than was taken out.
-pub record IsRoute (problem : ProblemView) (route : List Trade) : Type 0 where
+-- How much of a token the parts give: the amount of its part, or nothing.
+abbrev pub given_by_parts : List Part → Name → ℕ
+given_by_parts [] token = 0
+given_by_parts (part ∷ parts) token = if bytes_eq token part.token then part.amount else given_by_parts parts token
+
+abbrev pub given : OpenView → Name → ℕ
+given problem = given_by_parts problem.parts
+
+-- Each pool at most once, each trade by its rule; of every token no more is put in than was taken out and is given.
+pub record IsRoute (problem : OpenView) (route : List Trade) : Type 0 where
   pub once : AllPairs (λ (a b : Trade). a.place ≢ b.place) route
   pub trades : All (IsTrade problem.pools) route
-  pub spends : put_in problem.pools route problem.s ≤ taken_out problem.pools route problem.s + problem.d
-  pub covers : (token : Name) → token ≢ problem.s → put_in problem.pools route token ≤ taken_out problem.pools route token
+  pub covers : (token : Name) → put_in problem.pools route token ≤ taken_out problem.pools route token + given problem token
 
 -- What a route delivers: its net of t.
-abbrev pub delivered_by : ProblemView → List Trade → ℕ
+abbrev pub delivered_by : OpenView → List Trade → ℕ
 delivered_by problem route = taken_out problem.pools route problem.t - put_in problem.pools route problem.t

@@ -23,14 +23,17 @@ pub use byte_line::ByteLine;
 pub use command::{AddWant, Command, RemoveWant, Step};
 pub use fault::{Fault, Refusal};
 pub use line::Line;
-pub use list::{LegList, ProblemPoolList};
+pub use list::{LegList, PartList, ProblemPoolList};
 pub use observation::Observation;
 pub use pair::{
     AddReceipt, BurnReceipt, MintReceipt, PairRecord, RemoveReceipt, SkimReceipt, SwapReceipt,
 };
 pub use path::{FeeList, RoutePath, TokenList};
-pub use prices::Prices;
-pub use problem::{Problem, ProblemPool, TokenPlaces, parts_determine_problem};
+pub use prices::{Prices, Turn};
+pub use problem::{
+    OpenProblem, Part, Problem, ProblemPool, TokenPlaces, parts_determine_open_problem,
+    parts_determine_problem,
+};
 pub use reply::{Answer, Reply};
-pub use route::{Leg, Quote, Route};
+pub use route::{Hop, Leg, Quote, Route};
 pub use trade::{Matched, Side, Trade};

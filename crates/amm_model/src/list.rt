@@ -1,7 +1,7 @@
 //! Lists inside the public types, each seen as its items.
 ghost use Rattle.std.specs.Prelude.{◌≡◌, IfOk};
 
-use crate::{Leg, ProblemPool};
+use crate::{Leg, Part, ProblemPool};
 use amm_names::Memory;
 use std::alloc::Global;
 use std::marker::Model;
@@ -77,6 +77,44 @@ impl ProblemPoolList {
         ensures { IfOk result (λ list. list ≡ self.now) }
     {
         Ok(ProblemPoolList {
+            list: Vec::from_slice(alloc, &self.list)?,
+        })
+    }
+}
+
+/// The parts of a problem.
+#[derive(Drop)]
+pub struct PartList {
+    list: Vec<Part>,
+}
+
+impl Model for PartList {
+    ghost use Rattle.std.specs.Prelude.{List};
+    ghost use Rattle.amm_model.specs.declared.problem.Part.{Part};
+
+    ghost Value = { List Part };
+
+    ghost view = { λ a. a.list.items };
+}
+
+impl PartList {
+    pub fn from_vec(list: Vec<Part>) -> PartList
+        ensures { result ≡ list.items }
+    {
+        PartList { list }
+    }
+
+    pub fn as_slice(&self) -> &[Part]
+        ensures { result.now ≡ self.now }
+    {
+        &self.list
+    }
+
+    /// An equal list.
+    pub fn copy(&self, alloc: Global) -> Result<PartList, Memory>
+        ensures { IfOk result (λ list. list ≡ self.now) }
+    {
+        Ok(PartList {
             list: Vec::from_slice(alloc, &self.list)?,
         })
     }

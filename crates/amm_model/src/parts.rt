@@ -1,10 +1,11 @@
 // What a routing problem is made of: its parts are tested, and its tokens gathered and placed.
-ghost use Rattle.std.specs.Prelude.{◌≡◌, ◌↔◌, ◌<◌, ◌≤◌, ◌≢◌, ◌^◌, IfOk, IsTrue, All, AllPairs, Contains, length, map, ◌∷◌, List, ℕ};
+ghost use Rattle.std.specs.Prelude.{◌≡◌, ◌↔◌, ◌<◌, ◌≤◌, ◌≢◌, ◌^◌, IfOk, IsTrue, All, AllPairs, Contains, length, map, ◌∷◌, ◌++◌, List, ℕ};
 ghost use Rattle.amm_names.specs.Pools.{is_pool_name};
+ghost use Rattle.amm_model.specs.declared.problem.Part as part_view;
 ghost use Rattle.amm_model.specs.declared.problem.ProblemPool as pool_view;
-ghost use Rattle.amm_model.specs.Routing.{AreParts, AreSpelled, HasBalances, HasReserves, IsBefore, places_of as places_of_pool, token_place, tokens_of_pools};
+ghost use Rattle.amm_model.specs.Routing.{AreOpenParts, AreSpelled, HasBalances, HasReserves, IsBefore, part_place, places_of as places_of_pool, token_place, tokens_named as tokens_named_by, tokens_of_pools};
 
-use crate::{ProblemPool, TokenPlaces};
+use crate::{Part, ProblemPool, TokenPlaces};
 use amm_names::{Memory, TokenName};
 use std::alloc::Global;
 
@@ -15,13 +16,38 @@ const MAX_RESERVE: u64 = 0xffff_ffff_ffff;
 const MAX_AMOUNT: u64 = 0xf_ffff_ffff_ffff;
 
 /// Whether a problem can be made of these parts.
-pub fn are_parts(s: &TokenName, t: &TokenName, d: u64, pools: &[ProblemPool]) -> bool
-    ensures { IsTrue result ↔ AreParts s.now t.now d pools.now }
+pub fn are_parts(parts: &[Part], t: &TokenName, pools: &[ProblemPool]) -> bool
+    ensures { IsTrue result ↔ AreOpenParts parts.now t.now pools.now }
 {
-    if s == t || d == 0 || d > MAX_AMOUNT || pools.len() > 256 {
+    if parts.len() > 8 || pools.len() > 256 {
         return false;
     }
-    are_ascending(pools) && are_filled(pools)
+    are_rising(parts) && are_given(parts, t) && are_ascending(pools) && are_filled(pools)
+}
+
+// Whether the tokens of the parts strictly ascend.
+fn are_rising(parts: &[Part]) -> bool
+    ensures { IsTrue result ↔ AllPairs (λ (a b : part_view.Part). IsBefore a.token b.token) parts.now }
+{
+    for i in 1..parts.len() {
+        if parts[i - 1].token >= parts[i].token {
+            return false;
+        }
+    }
+    true
+}
+
+// Whether no part is of the target, and each amount is in its range.
+fn are_given(parts: &[Part], t: &TokenName) -> bool
+    ensures { IsTrue result ↔ (All (λ (part : part_view.Part). part.token ≢ t.now) parts.now
+        × All (λ (part : part_view.Part). (1 ≤ part.amount) × (part.amount < 2 ^ 52)) parts.now) }
+{
+    for part in parts {
+        if part.token == *t || part.amount == 0 || part.amount > MAX_AMOUNT {
+            return false;
+        }
+    }
+    true
 }
 
 // Whether the names of the pools strictly ascend.
@@ -55,49 +81,68 @@ fn is_filled(reserve: u64, balance: u64) -> bool
 }
 
 /// Does nothing: the names of a problem are spelled as their types say.
-pub fn spelled(s: &TokenName, t: &TokenName, pools: &[ProblemPool])
-    ensures { AreSpelled s.now t.now pools.now }
+pub fn spelled(parts: &[Part], t: &TokenName, pools: &[ProblemPool])
+    ensures { AreSpelled parts.now t.now pools.now }
 {
-    let _source = s.as_bytes();
     let _target = t.as_bytes();
+    for part in parts {
+        let _source = part.token.as_bytes();
+    }
     for pool in pools {
         let _name = pool.name.as_bytes();
     }
 }
 
-/// The two tokens and those of the pools, each once, in the order of their names.
+/// The target, and the tokens of the parts and of the pools, each once, in the order of their names.
 pub fn tokens_of(
     alloc: Global,
-    s: TokenName,
+    parts: &[Part],
     t: TokenName,
     pools: &[ProblemPool],
 ) -> Result<Vec<TokenName>, Memory>
     ensures ascending { IfOk result (λ tokens. AllPairs IsBefore tokens.items) }
-    ensures tokens { IfOk result (λ tokens. (token : List ℕ) → Contains tokens.items token ↔ Contains (s ∷ t ∷ tokens_of_pools pools.now) token) }
+    ensures tokens { IfOk result (λ tokens. (token : List ℕ) → Contains tokens.items token ↔ Contains (tokens_named_by parts.now t pools.now) token) }
 {
-    let mut tokens = tokens_named(alloc, s, t, pools)?;
+    let mut tokens = tokens_named(alloc, parts, t, pools)?;
     tokens.sort_unstable();
     tokens.dedup();
     Ok(tokens)
 }
 
-// The two tokens and those of the pools, pool by pool.
+// The target, the tokens of the parts, and those of the pools, pool by pool.
 fn tokens_named(
     alloc: Global,
-    s: TokenName,
+    parts: &[Part],
     t: TokenName,
     pools: &[ProblemPool],
 ) -> Result<Vec<TokenName>, Memory>
-    ensures { IfOk result (λ tokens. tokens.items ≡ s ∷ t ∷ tokens_of_pools pools.now) }
+    ensures { IfOk result (λ tokens. tokens.items ≡ tokens_named_by parts.now t pools.now) }
 {
     let mut tokens = Vec::new(alloc);
-    tokens.push(s)?;
     tokens.push(t)?;
+    for part in parts {
+        tokens.push(part.token)?;
+    }
     for pool in pools {
         tokens.push(*pool.name.token0())?;
         tokens.push(*pool.name.token1())?;
     }
     Ok(tokens)
+}
+
+/// The places of the parts' tokens, part by part.
+pub fn part_places_of(
+    alloc: Global,
+    tokens: &[TokenName],
+    parts: &[Part],
+) -> Result<Vec<usize>, Memory>
+    ensures { IfOk result (λ places. places.items ≡ map (part_place tokens.now) parts.now) }
+{
+    let mut places = Vec::new(alloc);
+    for part in parts {
+        places.push(place_of(tokens, &part.token))?;
+    }
+    Ok(places)
 }
 
 /// The places of the pools' tokens, pool by pool.

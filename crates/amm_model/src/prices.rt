@@ -52,6 +52,13 @@ impl Prices {
     }
 }
 
+/// The price of the token at a place goes up or down.
+#[derive(Clone, Copy, Debug, PartialEq, Eq, Drop)]
+pub struct Turn {
+    pub place: usize,
+    pub up: bool,
+}
+
 // Prices are below this.
 const PRICE_LIMIT: u64 = 0x100_0000_0000;
 

@@ -16,6 +16,14 @@ pub struct Leg {
     pub output: u64,
 }
 
+/// A pool of a path, named by its place in the problem, and which of its tokens goes in.
+#[derive(Clone, Copy, Debug, PartialEq, Eq, Drop)]
+pub struct Hop {
+    pub pool: u32,
+    /// Whether the pool's token 0 goes in.
+    pub zero_in: bool,
+}
+
 /// Legs in the order in which they are taken.
 #[derive(Drop)]
 pub struct Route {

@@ -1,0 +1,10 @@
+use Rattle.std.proofs.Common.{◌≡◌}
+use Rattle.amm_dual.specs.Moves.{NoHelpBelow}
+use Rattle.amm_dual.proofs.descent.open_settled.Given as goal
+
+abbrev pub invariant-loop-n : goal.invariant-loop-n
+invariant-loop-n l = record {
+  problem : l.running.problem ≡ l.problem;
+  prices : l.running.prices ≡ l.prices;
+  none : NoHelpBelow l.problem l.prices l.n;
+}

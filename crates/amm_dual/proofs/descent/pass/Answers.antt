@@ -1,0 +1,34 @@
+use Rattle.std.proofs.Common.{ap, ◌∙◌, ◌≡◌, true, false, ◌+◌, ◌*◌, length, sym}
+use Rattle.amm_model.specs.Routing.{OpenView}
+use Rattle.amm_dual.proofs.Steps.{lower-after, none-more, same-after}
+use Rattle.amm_dual.proofs.descent.pass.Goals as goal
+use Rattle.amm_dual.proofs.descent.pass.Goals.{then-improve_at, else-improve_at}
+
+pub loop-n-preserved : goal.loop-n-preserved
+loop-n-preserved c =
+    let first = c.args.running.now in
+    let now = c.loop-n.running in
+    let next = c.improve_at.new.running in
+    let inv = c.loop-n.invariant in
+    let count = inv.count ∙ ap (λ (o : OpenView). 64 * (length o.tokens + length o.pools)) (sym c.improve_at.ensures.problem) in
+    elim c.if-improve_at.branch [
+      | then-improve_at w ↦ record {
+        problem = c.improve_at.ensures.problem ∙ inv.problem;
+        many = c.improve_at.ensures.many ∙ inv.many;
+        unit = c.improve_at.ensures.unit ∙ inv.unit;
+        count = count;
+        lower = λ h. lower-after c.loop-n.helped first now next _ inv.lower inv.kept inv.problem (c.improve_at.ensures.lower w.if-improve_at.true);
+        kept = λ h. absurd (let e : true ≡ false = cc in cc);
+      }
+      | else-improve_at w ↦ record {
+        problem = c.improve_at.ensures.problem ∙ inv.problem;
+        many = c.improve_at.ensures.many ∙ inv.many;
+        unit = c.improve_at.ensures.unit ∙ inv.unit;
+        count = count;
+        lower = λ h. same-after first now next (c.improve_at.ensures.kept w.if-improve_at.false) c.improve_at.ensures.problem (inv.lower cc);
+        kept = λ h. (
+          c.improve_at.ensures.kept w.if-improve_at.false ∙ (inv.kept cc).0,
+          none-more now next c.loop-n.n (c.improve_at.ensures.kept w.if-improve_at.false) c.improve_at.ensures.problem (inv.kept cc).1 (c.improve_at.ensures.steady w.if-improve_at.false),
+        );
+      }
+    ]

@@ -1,9 +1,0 @@
-use Rattle.std.proofs.Common.{[]}
-use Rattle.amm_model.specs.Legs.{starting_with}
-use Rattle.amm_legs.proofs.Legs.{leg_at}
-use Rattle.amm_legs.proofs.legs_delivered.Goals as goal
-
-pub returns-then-not-take : goal.returns-then-not-take
-returns-then-not-take c = λ legal.
-    let wrong = c.if-not-take.ensures.next.1 (leg_at c.args.problem.now.pools [] (starting_with c.args.problem.now) c.args.legs.now c.loop-i.i c.loop-i-test.true legal) in
-    cc

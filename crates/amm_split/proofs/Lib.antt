@@ -1,0 +1,3 @@
+pub mod Pairs2
+pub mod AtSizes
+pub mod Bridge
