@@ -13,7 +13,8 @@ use Rattle.amm_names.specs.Pools.{is_pool_name}
 use Rattle.amm_model.specs.declared.fault.Refusal.{Refusal}
 use Rattle.amm_model.specs.declared.fault.Refusal.TheVariants.{BadCommand}
 use Rattle.amm_model.specs.Outcome.{◌>>=◌}
-use Rattle.amm_model.specs.Forms.{as_text, as_list, as_whole, as_amount, as_token, as_pool, fitting, amount_max}
+use Rattle.amm_model.specs.Forms.{as_text, as_list, as_whole, as_amount, as_token, as_pool, fitting}
+use Rattle.amm_model.specs.declared.limits.TheConstants.{AMOUNT_LIMIT}
 use Rattle.amm_model.specs.Json.{each, elements, list, whole, wide}
 use Rattle.amm_model.proofs.Guards.{given, same_answer, was_some}
 use Rattle.amm_model.proofs.FormsFit.{amount_small}
@@ -70,19 +71,19 @@ pub fits : {A : Type 0} (test : Bool) (x : A) → test ≡ true → fitting test
 fits true x e = refl
 fits false x e = cc
 
-pub amount-is : (d : Data) (n : ℕ) → as_amount d ≡ Ok n → (d ≡ whole n) × (n ≤ amount_max)
+pub amount-is : (d : Data) (n : ℕ) → as_amount d ≡ Ok n → (d ≡ whole n) × (n ≤ AMOUNT_LIMIT)
 unfolding as_amount
 amount-is d n e =
     let first = given (as_whole d) _ n e in
-    let both = passed (nat_le first.value amount_max) first.value n first.after in
+    let both = passed (nat_le first.value AMOUNT_LIMIT) first.value n first.after in
     (whole-is d first.value first.was ∙ ap whole both.1, amount_small d n e)
 
-amount_passes : (n : ℕ) → n ≤ amount_max → nat_le n amount_max ≡ true
+amount_passes : (n : ℕ) → n ≤ AMOUNT_LIMIT → nat_le n AMOUNT_LIMIT ≡ true
 amount_passes n le = grind (arith, nat_tests)
 
-pub amount-of : (n : ℕ) → n ≤ amount_max → as_amount (whole n) ≡ Ok n
+pub amount-of : (n : ℕ) → n ≤ AMOUNT_LIMIT → as_amount (whole n) ≡ Ok n
 unfolding as_amount
-amount-of n le = fits (nat_le n amount_max) n (amount_passes n le)
+amount-of n le = fits (nat_le n AMOUNT_LIMIT) n (amount_passes n le)
 
 named-is : (d : Data) (test : List ℕ → Bool) (s : List ℕ) → (as_text d >>= λ x. fitting (test x) x) ≡ Ok s → d ≡ string s
 named-is d test s e =

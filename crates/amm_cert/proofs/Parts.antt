@@ -15,7 +15,8 @@ use Rattle.amm_model.specs.declared.fault.Refusal.TheVariants.{BadCommand}
 use Rattle.amm_model.specs.declared.problem.ProblemPool.{ProblemPool}
 use Rattle.amm_model.specs.declared.route.Leg.{Leg}
 use Rattle.amm_model.specs.Outcome.{◌>>=◌}
-use Rattle.amm_model.specs.Forms.{as_text, as_list, as_amount, as_pool, fitting, amount_max}
+use Rattle.amm_model.specs.Forms.{as_text, as_list, as_amount, as_pool, fitting}
+use Rattle.amm_model.specs.declared.limits.TheConstants.{AMOUNT_LIMIT}
 use Rattle.amm_model.specs.Json.{each, list, whole}
 use Rattle.amm_model.specs.Routing.{ArePrices, IsBefore, no_pool, token0_of, token1_of}
 use Rattle.amm_model.specs.Legs.{leg_pool, token_in}
@@ -40,10 +41,10 @@ done = refl
 -- numbers of a pool are amounts
 pub record AreAmounts (pool : ProblemPool) : Type 0 where
   pub name : IsTrue (is_pool_name pool.name)
-  pub r0 : pool.r0 ≤ amount_max
-  pub r1 : pool.r1 ≤ amount_max
-  pub b0 : pool.b0 ≤ amount_max
-  pub b1 : pool.b1 ≤ amount_max
+  pub r0 : pool.r0 ≤ AMOUNT_LIMIT
+  pub r1 : pool.r1 ≤ AMOUNT_LIMIT
+  pub b0 : pool.b0 ≤ AMOUNT_LIMIT
+  pub b1 : pool.b1 ≤ AMOUNT_LIMIT
 
 parts-is : (n a b c d : Data) (pool : ProblemPool) → pool_parts n a b c d ≡ Ok pool → list (n ∷ a ∷ b ∷ c ∷ d ∷ []) ≡ pool_value pool
 parts-is n a b c d pool e =
@@ -211,8 +212,8 @@ place-of pools k named lt =
 -- a leg over the pools whose amounts are amounts
 pub record FitsLeg (pools : List ProblemPool) (leg : Leg) : Type 0 where
   pub there : leg.pool < length pools
-  pub input : leg.input ≤ amount_max
-  pub output : leg.output ≤ amount_max
+  pub input : leg.input ≤ AMOUNT_LIMIT
+  pub output : leg.output ≤ AMOUNT_LIMIT
 
 leg_parts-is : (pools : List ProblemPool) (n t a b : Data) (leg : Leg) → leg_row pools (n ∷ t ∷ a ∷ b ∷ []) ≡ Ok leg → (list (n ∷ t ∷ a ∷ b ∷ []) ≡ leg_value pools leg) × FitsLeg pools leg
 leg_parts-is pools n t a b leg e =

@@ -18,7 +18,8 @@ use Rattle.serde_json.specs.Written.{outline, items_outline, compact_text, items
 use Rattle.serde_json.proofs.Texts.{print-outline}
 use Rattle.amm_names.specs.Names.{is_user_name, is_token_name}
 use Rattle.amm_model.specs.Json.{json_value, elements, list, whole}
-use Rattle.amm_model.specs.Forms.{as_user, as_token, as_amount, amount_max}
+use Rattle.amm_model.specs.Forms.{as_user, as_token, as_amount}
+use Rattle.amm_model.specs.declared.limits.TheConstants.{AMOUNT_LIMIT}
 use Rattle.amm_model.specs.CommandView as view
 use Rattle.amm_model.specs.CommandView.{CommandView}
 use Rattle.amm_model.specs.Fits.{IsAmount}
@@ -93,7 +94,7 @@ token_reads name h = rw h refl
 amount_reads : (n : ℕ) → IsAmount n → as_amount (whole n) ≡ Ok n
 unfolding as_amount
 amount_reads n h =
-    let test : nat_le n amount_max ≡ true = grind (arith, nat_tests) in
+    let test : nat_le n AMOUNT_LIMIT ≡ true = grind (arith, nat_tests) in
     rw test refl
 
 pub deposit_back : (user token : List ℕ) (n : ℕ) → IsTrue (is_user_name user) → IsTrue (is_token_name token) → IsAmount n → IsUtf8 user → IsUtf8 token → command_of_line (compact_text (row_value (view.deposit user token n))) ≡ Ok (view.deposit user token n)

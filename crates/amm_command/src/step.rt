@@ -3,7 +3,8 @@ ghost use Rattle.std.specs.Prelude.{◌≡◌, [], ◌∷◌, map, nat_le};
 ghost use Rattle.amm_model.specs.Outcome.{Gives};
 ghost use Rattle.amm_model.specs.Json.{each};
 ghost use Rattle.amm_model.specs.CommandView.{move_of_step, moves_of_steps};
-ghost use Rattle.amm_model.specs.Reading.{move_row, flash_row, as_steps, as_step, step_row, steps_max, step_count, steps_inside};
+ghost use Rattle.amm_model.specs.Reading.{move_row, flash_row, as_steps, as_step, step_row, step_count, steps_inside};
+ghost use Rattle.amm_model.specs.declared.limits.TheConstants.{STEP_LIMIT};
 ghost use Rattle.amm_command.specs.Ahead.{room_after};
 ghost use Rattle.amm_command.specs.Seen.{seen};
 
@@ -142,7 +143,7 @@ fn step_of(alloc: Global, loans: u32, actor: &UserName, values: &[Value<'_>]) ->
 
 /// Whether a step has at most 256 steps inside, at all levels.
 pub fn fits(step: &Step) -> bool
-    ensures { result ≡ nat_le (steps_inside (move_of_step step.now)) steps_max }
+    ensures { result ≡ nat_le (steps_inside (move_of_step step.now)) STEP_LIMIT }
 {
     match step {
         Step::Flash { steps, .. } => room_left(steps, 256).is_some(),

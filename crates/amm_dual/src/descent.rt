@@ -7,14 +7,12 @@ ghost use Rattle.amm_dual.specs.Moves.{IsNoHelp, NoHelpBelow, NoHelpAt, Helps, t
 
 use crate::moves::{Move, move_at, move_count};
 use crate::running::Running;
+use amm_model::limits::PRICE_LIMIT;
 use amm_model::{Memory, OpenProblem, Prices, Problem, Turn};
 use std::alloc::Global;
 
 // The price of the target.
 const UNIT: u64 = 0x10_0000;
-
-// Prices are below this.
-const PRICE_LIMIT: u64 = 0x100_0000_0000;
 
 /// Settled prices, found from these by moves that help.
 pub fn descended(alloc: Global, problem: &OpenProblem, start: &Prices) -> Result<Prices, Memory>
@@ -122,7 +120,7 @@ fn improve_one(running: &mut Running<'_>, k: u32, turn: Turn, before: u128) -> b
 {
     let price = running.price(turn.place);
     let next = stepped(k, turn.up, price);
-    if next == 0 || next >= PRICE_LIMIT {
+    if next == 0 || next > PRICE_LIMIT {
         return false;
     }
     running.set(turn.place, next);
@@ -152,7 +150,7 @@ fn improve_two(running: &mut Running<'_>, k: u32, first: Turn, second: Turn, bef
 {
     let price = running.price(first.place);
     let next = stepped(k, first.up, price);
-    if next == 0 || next >= PRICE_LIMIT {
+    if next == 0 || next > PRICE_LIMIT {
         return false;
     }
     running.set(first.place, next);

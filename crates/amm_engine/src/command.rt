@@ -2,7 +2,7 @@
 ghost use Rattle.std.specs.Prelude.{◌≡◌, ◌≤◌};
 ghost use Rattle.amm_model.specs.CommandView.{view_of, balance as ask_balance, fee_to as ask_fee_to, pool as ask_pool, quote_in as ask_quote_in, quote_out as ask_quote_out, setter as ask_setter, time as ask_time, total as ask_total};
 ghost use Rattle.amm_model.specs.Fits.{Fits, IsPath};
-ghost use Rattle.amm_model.specs.Ledger.{total_limit};
+ghost use Rattle.amm_model.specs.declared.limits.TheConstants.{AMOUNT_LIMIT};
 ghost use Rattle.amm_model.specs.Meaning.{deposit as deposit_in, outcome_of, withdraw as withdraw_in};
 ghost use Rattle.amm_model.specs.Sound.{IsSound};
 ghost use Rattle.amm_state.specs.Tx.{Meets};
@@ -164,7 +164,7 @@ fn quote_out(alloc: Global, tx: &mut Tx, path: &RoutePath, n: u64) -> Result<Ans
     requires clean { tx.old.mark ≡ Mark.Clean }
     requires sound { IsSound tx.old.present }
     requires path { IsPath path.now }
-    requires amount { n ≤ total_limit }
+    requires amount { n ≤ AMOUNT_LIMIT }
     ensures meets { Meets tx.old tx.new result (outcome_of tx.old.present (ask_quote_out path.now n)) }
 {
     match amounts_out(alloc, tx.book(), path, n) {
@@ -179,7 +179,7 @@ fn quote_in(alloc: Global, tx: &mut Tx, path: &RoutePath, n: u64) -> Result<Answ
     requires clean { tx.old.mark ≡ Mark.Clean }
     requires sound { IsSound tx.old.present }
     requires path { IsPath path.now }
-    requires amount { n ≤ total_limit }
+    requires amount { n ≤ AMOUNT_LIMIT }
     ensures meets { Meets tx.old tx.new result (outcome_of tx.old.present (ask_quote_in path.now n)) }
 {
     match amounts_in(alloc, tx.book(), path, n) {

@@ -4,6 +4,7 @@ ghost use Rattle.std.specs.Io.KnownBytes.{Appends};
 ghost use Rattle.amm_io.specs.Causes.{HasCause};
 ghost use Rattle.amm_io.specs.Traffic.{AppendsPart};
 ghost use Rattle.amm_model.specs.declared.line.Line.TheVariants.{Whole};
+ghost use Rattle.amm_model.specs.declared.limits.TheConstants.{INPUT_LIMIT};
 ghost use Rattle.amm_model.specs.Ledger.{opening_ledger};
 ghost use Rattle.amm_model.specs.Sound.{IsAtRest};
 ghost use Rattle.amm_model.specs.CommandView.{view_of};
@@ -17,13 +18,11 @@ use crate::Status;
 use crate::line::{run, write_reply};
 use amm_command::LineReader;
 use amm_io::{IoEnd, Lines, Sink, Source, WriteEnd, write_all};
+use amm_model::limits::INPUT_LIMIT;
 use amm_model::{Answer, Command, Fault, Line, Memory, Refusal};
 use amm_state::{Book, Seed, State};
 use std::alloc::Global;
 use std::marker::Model;
-
-/// The most bytes of an input, 1 GiB.
-const INPUT_LIMIT: u64 = 1073741824;
 
 /// A ledger that answers lines. It is at rest between them.
 #[derive(Drop)]
@@ -159,11 +158,11 @@ impl Engine {
         source: &mut S,
         sink: &mut K,
     ) -> Status
-        ensures done { result ≡ Status.Done → ServesAll 1073741824 (S.left source.old) (S.left source.new) (K.written sink.old) (K.written sink.new) self.old self.new }
-        ensures ended { result ≡ Status.ReadFault → ServesEnded 1073741824 (S.left source.old) (S.left source.new) (K.written sink.old) (K.written sink.new) self.old self.new }
-        ensures passed { result ≡ Status.InputLimit → ServesToLimit 1073741824 (S.left source.old) (S.left source.new) (K.written sink.old) (K.written sink.new) self.old self.new }
-        ensures broken { result ≡ Status.WriteFault → BreaksOff 1073741824 (S.left source.old) (S.left source.new) (K.written sink.old) (K.written sink.new) self.old self.new }
-        ensures memory { result ≡ Status.Memory → LacksMemory 1073741824 (S.left source.old) (S.left source.new) (K.written sink.old) (K.written sink.new) self.old self.new }
+        ensures done { result ≡ Status.Done → ServesAll INPUT_LIMIT (S.left source.old) (S.left source.new) (K.written sink.old) (K.written sink.new) self.old self.new }
+        ensures ended { result ≡ Status.ReadFault → ServesEnded INPUT_LIMIT (S.left source.old) (S.left source.new) (K.written sink.old) (K.written sink.new) self.old self.new }
+        ensures passed { result ≡ Status.InputLimit → ServesToLimit INPUT_LIMIT (S.left source.old) (S.left source.new) (K.written sink.old) (K.written sink.new) self.old self.new }
+        ensures broken { result ≡ Status.WriteFault → BreaksOff INPUT_LIMIT (S.left source.old) (S.left source.new) (K.written sink.old) (K.written sink.new) self.old self.new }
+        ensures memory { result ≡ Status.Memory → LacksMemory INPUT_LIMIT (S.left source.old) (S.left source.new) (K.written sink.old) (K.written sink.new) self.old self.new }
         ensures never { (result ≢ Status.No) × (result ≢ Status.Usage) }
         ensures read_fault { HasCause (S.faults source.old) (S.faults source.new) (result ≡ Status.ReadFault) }
         ensures write_fault { HasCause (K.faults sink.old) (K.faults sink.new) (result ≡ Status.WriteFault) }

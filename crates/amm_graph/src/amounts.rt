@@ -6,11 +6,9 @@ ghost use Rattle.amm_model.specs.Paths.{IsHop, IsPath, gives as gives_of, hop_gi
 ghost use Rattle.amm_graph.specs.Hops.{hops_of};
 
 use crate::Path;
+use amm_model::limits::RESERVE_LIMIT;
 use amm_model::{Hop, OpenProblem, Problem};
 use amm_pool::amount_out;
-
-// Balances with room for an update are below this.
-const ROOM: u64 = 0x1_0000_0000_0000;
 
 /// What the path gives for `x`; None where it gives nothing.
 pub fn along(problem: &Problem, path: &Path, x: u64) -> Option<u64>
@@ -68,7 +66,7 @@ fn side_gives(fee: u8, balance: u64, rin: u64, rout: u64, x: u64) -> u64
     ensures value { result ≡ side_gives_of fee balance rin rout x }
     ensures below { result < 2 ^ 48 }
 {
-    if balance + x >= ROOM {
+    if balance + x > RESERVE_LIMIT {
         0
     } else if x == 0 {
         0

@@ -6,10 +6,8 @@ ghost use Rattle.amm_graph.specs.Hops.{hops_of};
 ghost use Rattle.amm_graph.specs.Ways.{behind, hop_over, is_admissible, through, ways};
 
 use crate::Path;
+use amm_model::limits::RESERVE_LIMIT;
 use amm_model::{Hop, Memory, OpenProblem, ProblemPool};
-
-// Balances with room for an update are below this.
-const ROOM: u64 = 0x1_0000_0000_0000;
 
 /// The places of the tokens between which paths are sought.
 #[derive(Clone, Copy, Drop)]
@@ -117,5 +115,5 @@ fn side(problem: &OpenProblem, at: usize, i: usize) -> Option<(Hop, usize)>
 fn is_admissible(pool: &ProblemPool) -> bool
     ensures { result ≡ is_admissible pool.now }
 {
-    pool.b0 < ROOM && pool.b1 < ROOM
+    pool.b0 <= RESERVE_LIMIT && pool.b1 <= RESERVE_LIMIT
 }

@@ -4,11 +4,9 @@ ghost use Rattle.amm_model.specs.Lines.{line_of};
 ghost use Rattle.amm_io.specs.Parts.{Holds};
 
 use crate::bytes::all_blank;
+use amm_model::limits::LINE_LIMIT;
 use amm_model::{ByteLine, Line, Memory};
 use std::marker::Model;
-
-/// The most bytes of a line.
-const LONGEST: usize = 65536;
 
 #[derive(Drop)]
 pub(crate) struct Part {
@@ -43,7 +41,7 @@ impl Part {
         if self.long {
             return Ok(());
         }
-        if more.len() > LONGEST || self.bytes.len() + more.len() > LONGEST {
+        if more.len() > LINE_LIMIT || self.bytes.len() + more.len() > LINE_LIMIT {
             self.long = true;
             self.bytes.clear();
             return Ok(());

@@ -5,23 +5,18 @@ ghost use Rattle.amm_model.specs.Routing.{HasReserves, fee_of, given};
 ghost use Rattle.amm_model.specs.Legs.{IsAdmissible, IsLeg, after_legs, no_leg, used_after};
 ghost use Rattle.amm_legs.specs.Progress.{Follows, IsNext, IsPaid};
 
+use amm_model::limits::{PAIR_LIMIT, RESERVE_LIMIT};
 use amm_model::{Leg, OpenProblem, ProblemPool, TokenPlaces};
 use amm_pool::amount_out;
 
-// A problem has at most so many pools.
-const MAX_POOLS: usize = 256;
-
-// And so at most so many tokens: its target, eight parts, and two for each pool.
+// At most so many tokens: the target, eight parts, and two for each pool.
 const MAX_TOKENS: usize = 521;
-
-// Balances with room for an update are below this.
-const ROOM: u64 = 0x1_0000_0000_0000;
 
 /// What is held of each token of a problem, by its place, and which pools were used.
 #[derive(Drop)]
 pub struct Progress {
     pub held: [u64; MAX_TOKENS],
-    pub used: [bool; MAX_POOLS],
+    pub used: [bool; PAIR_LIMIT],
 }
 
 impl Progress {
@@ -111,11 +106,11 @@ fn no_amounts() -> [u64; MAX_TOKENS]
     [0; MAX_TOKENS]
 }
 
-fn no_marks() -> [bool; MAX_POOLS]
+fn no_marks() -> [bool; PAIR_LIMIT]
     ensures unmarked { (place : ℕ) → slice_index_or result place false ≡ false }
     ensures long { length result ≡ 256 }
 {
-    [false; MAX_POOLS]
+    [false; PAIR_LIMIT]
 }
 
 // The places of the token that goes in and of the one that comes out.
@@ -135,7 +130,7 @@ fn is_paid(pool: &ProblemPool, leg: Leg) -> bool
     requires reserves { HasReserves pool.now }
     ensures { IsTrue result ↔ IsPaid pool.now leg }
 {
-    if pool.b0 >= ROOM || pool.b1 >= ROOM {
+    if pool.b0 > RESERVE_LIMIT || pool.b1 > RESERVE_LIMIT {
         return false;
     }
     let fee = pool.name.fee();
@@ -154,8 +149,8 @@ fn pays(fee: u8, balance: u64, rin: u64, rout: u64, leg: Leg) -> bool
     requires reserve_out { (1 ≤ rout) × (rout < 2 ^ 48) }
     ensures { IsTrue result ↔ ((1 ≤ leg.input) × (balance + leg.input < 2 ^ 48) × (1 ≤ leg.output) × (leg.output ≡ amount_out_of fee leg.input rin rout)) }
 {
-    if leg.input == 0 || leg.input >= ROOM || leg.output == 0 {
+    if leg.input == 0 || leg.input > RESERVE_LIMIT || leg.output == 0 {
         return false;
     }
-    balance + leg.input < ROOM && leg.output == amount_out(fee, leg.input, rin, rout)
+    balance + leg.input <= RESERVE_LIMIT && leg.output == amount_out(fee, leg.input, rin, rout)
 }

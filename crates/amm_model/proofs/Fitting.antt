@@ -8,7 +8,8 @@ use Rattle.amm_model.specs.Json.{json_value, each}
 use Rattle.amm_model.specs.Forms.{as_text, as_list, as_user, as_token, as_pool, as_asset, as_holder, as_path, as_amount, fee_behind}
 use Rattle.amm_model.specs.CommandView as view
 use Rattle.amm_model.specs.CommandView.{CommandView, Move, Moves, moves_of}
-use Rattle.amm_model.specs.Reading.{deposit_row, withdraw_row, time_row, fee_to_row, setter_row, quote_out_row, quote_in_row, split_row, certificate_row, pool_row, balance_row, total_row, act_row, row_of, transfer_row, create_row, mint_row, burn_row, swap_row, skim_row, sync_row, flash_row, add_row, remove_row, swap_in_row, swap_out_row, settle_row, ReadSteps, move_row, step_row, as_step, as_steps, loans_max, steps_inside, steps_max, command_of_list, command_of, command_of_line}
+use Rattle.amm_model.specs.Reading.{deposit_row, withdraw_row, time_row, fee_to_row, setter_row, quote_out_row, quote_in_row, split_row, certificate_row, pool_row, balance_row, total_row, act_row, row_of, transfer_row, create_row, mint_row, burn_row, swap_row, skim_row, sync_row, flash_row, add_row, remove_row, swap_in_row, swap_out_row, settle_row, ReadSteps, move_row, step_row, as_step, as_steps, steps_inside, command_of_list, command_of, command_of_line}
+use Rattle.amm_model.specs.declared.limits.TheConstants.{LOAN_LIMIT, STEP_LIMIT}
 use Rattle.amm_model.specs.Fits.{FitsMove, FitMoves, Fits}
 use Rattle.amm_model.proofs.Guards.{given, same_answer}
 use Rattle.amm_model.proofs.FormsFit.{passed, user_named, token_named, pool_named, amount_small, fee_behind_fits, path_fits}
@@ -367,9 +368,9 @@ act_fits : (kind : List ℕ) (rest : List Data) → Reads Fits (act_row kind res
 unfolding Reads
 act_fits kind (user ∷ rest) asked is =
     let actor = given (as_user user) _ asked is in
-    let m = given (move_row (as_steps loans_max actor.value) kind rest) _ asked actor.after in
-    let both = passed (nat_le (steps_inside m.value) steps_max) (view.act actor.value m.value) asked m.after in
-    subst Fits both.1 (user_named user actor.value actor.was, move_row_fits (as_steps loans_max actor.value) (λ d ms. steps_fit loans_max actor.value d ms) kind rest m.value m.was)
+    let m = given (move_row (as_steps LOAN_LIMIT actor.value) kind rest) _ asked actor.after in
+    let both = passed (nat_le (steps_inside m.value) STEP_LIMIT) (view.act actor.value m.value) asked m.after in
+    subst Fits both.1 (user_named user actor.value actor.was, move_row_fits (as_steps LOAN_LIMIT actor.value) (λ d ms. steps_fit LOAN_LIMIT actor.value d ms) kind rest m.value m.was)
 act_fits kind [] asked is = cc
 
 row_fits : (kind : List ℕ) (rest : List Data) → Reads Fits (row_of kind rest)

@@ -11,7 +11,8 @@ use Rattle.amm_model.specs.declared.fault.Refusal.{Refusal}
 use Rattle.amm_model.specs.declared.path.RoutePath.{RoutePath}
 use Rattle.amm_model.specs.Outcome.{◌>>=◌}
 use Rattle.amm_model.specs.Swap.{IsFee}
-use Rattle.amm_model.specs.Forms.{as_text, as_list, as_user, as_token, as_pool, as_path, as_amount, as_fee, as_whole, fee_behind, fitting, amount_max, Hop, hops, path_along}
+use Rattle.amm_model.specs.Forms.{as_text, as_list, as_user, as_token, as_pool, as_path, as_amount, as_fee, as_whole, fee_behind, fitting, Hop, hops, path_along}
+use Rattle.amm_model.specs.declared.limits.TheConstants.{AMOUNT_LIMIT, PATH_LEAST, PATH_LIMIT}
 use Rattle.amm_model.specs.Fits.{IsAmount, IsPath}
 use Rattle.amm_model.proofs.Guards.{given, same_answer}
 
@@ -39,12 +40,12 @@ pub pool_named : (d : Data) (name : List ℕ) → as_pool d ≡ Ok name → IsTr
 unfolding as_pool
 pool_named d name is = passed_of (as_text d) is_pool_name name is
 
-small : (n : ℕ) → IsTrue (nat_le n amount_max) → IsAmount n
+small : (n : ℕ) → IsTrue (nat_le n AMOUNT_LIMIT) → IsAmount n
 small n is = grind (arith, nat_tests)
 
 pub amount_small : (d : Data) (n : ℕ) → as_amount d ≡ Ok n → IsAmount n
 unfolding as_amount
-amount_small d n is = small n (passed_of (as_whole d) (λ x. nat_le x amount_max) n is)
+amount_small d n is = small n (passed_of (as_whole d) (λ x. nat_le x AMOUNT_LIMIT) n is)
 
 fee_fits : (d : Data) (fee : ℕ) → as_fee d ≡ Ok fee → IsFee fee
 unfolding as_fee
@@ -118,7 +119,7 @@ both_true true true is = (refl, refl)
 both_true true false is = cc
 both_true false c is = cc
 
-within : (n : ℕ) → IsTrue (nat_le 2 n) → IsTrue (nat_le n 8) → (2 ≤ n) × (n ≤ 8)
+within : (n : ℕ) → IsTrue (nat_le PATH_LEAST n) → IsTrue (nat_le n PATH_LIMIT) → (PATH_LEAST ≤ n) × (n ≤ PATH_LIMIT)
 within n first second = (grind (arith, nat_tests), grind (arith, nat_tests))
 
 pub path_fits : (d : Data) (path : RoutePath) → as_path d ≡ Ok path → IsPath path
@@ -126,8 +127,8 @@ unfolding as_path
 path_fits d path is =
     let ds = given (as_list d) _ path is in
     let along = given (path_along ds.value) _ path ds.after in
-    let both = passed (nat_le 2 (length along.value.tokens) && nat_le (length along.value.tokens) 8) along.value path along.after in
-    let sides = both_true (nat_le 2 (length along.value.tokens)) (nat_le (length along.value.tokens) 8) both.0 in
+    let both = passed (nat_le PATH_LEAST (length along.value.tokens) && nat_le (length along.value.tokens) PATH_LIMIT) along.value path along.after in
+    let sides = both_true (nat_le PATH_LEAST (length along.value.tokens)) (nat_le (length along.value.tokens) PATH_LIMIT) both.0 in
     let size = within (length along.value.tokens) sides.0 sides.1 in
     let fit = along_fits ds.value along.value along.was in
     subst IsPath both.1 (record { tokens = fit.tokens; fees = fit.fees; between = fit.between; least = size.0; most = size.1 })

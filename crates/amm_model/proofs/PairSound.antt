@@ -11,7 +11,8 @@ use Rattle.amm_names.specs.declared.holder.Asset.TheVariants as assets
 use Rattle.amm_names.specs.Pools.{pool_token0, pool_token1}
 use Rattle.amm_model.specs.declared.pair.PairRecord.{PairRecord}
 use Rattle.amm_model.specs.declared.fault.Refusal.TheVariants as code
-use Rattle.amm_model.specs.Ledger.{Ledger, Pairs, Made, done, pair_limit, is_listed, pair_of, zero_pair, add_pair}
+use Rattle.amm_model.specs.Ledger.{Ledger, Pairs, Made, done, is_listed, pair_of, zero_pair, add_pair}
+use Rattle.amm_model.specs.declared.limits.TheConstants.{PAIR_LIMIT}
 use Rattle.amm_model.specs.Pools.{supply, same_name}
 use Rattle.amm_model.specs.Formulas.{IsBacked}
 use Rattle.amm_model.specs.Sound.{IsSoundPair, IsKnown, IsSound}
@@ -78,7 +79,7 @@ pair_cases l pool q pair absent is = elim (pair_of l.pairs q) as (λ o. pair_of 
     new false e gives = cc
 
 module _ (old : Ledger) (pool : List ℕ) (sound : IsSound old) (absent : pair_of old.pairs pool ≡ None)
-    (first : is_listed old.tokens (pool_token0 pool) ≡ true) (second : is_listed old.tokens (pool_token1 pool) ≡ true) (room : length old.pairs < pair_limit) where
+    (first : is_listed old.tokens (pool_token0 pool) ≡ true) (second : is_listed old.tokens (pool_token1 pool) ≡ true) (room : length old.pairs < PAIR_LIMIT) where
   as_before : (q : List ℕ) (pair : PairRecord) → IsSoundPair old q pair → IsSoundPair (one_more_pair old pool) q pair
   as_before q pair was = record {
     listed = was.listed;
@@ -119,11 +120,11 @@ module _ (old : Ledger) (pool : List ℕ) (sound : IsSound old) (absent : pair_o
 
 module _ (old : Ledger) (pool : List ℕ) (made : Made (Unit {0})) (is : add_pair old pool ≡ Ok made) where
   -- what an accepted call leaves
-  pub add_pair_made : (length old.pairs < pair_limit) × (made.ledger ≡ one_more_pair old pool)
+  pub add_pair_made : (length old.pairs < PAIR_LIMIT) × (made.ledger ≡ one_more_pair old pool)
   add_pair_made =
-      let past = past_refusal (nat_le pair_limit (length old.pairs)) code.PairLimit (done (one_more_pair old pool)) made is in
-      let told : nat_le pair_limit (length old.pairs) ≡ false = past.0 in
-      let room : length old.pairs < pair_limit = grind (arith, nat_tests) in
+      let past = past_refusal (nat_le PAIR_LIMIT (length old.pairs)) code.PairLimit (done (one_more_pair old pool)) made is in
+      let told : nat_le PAIR_LIMIT (length old.pairs) ≡ false = past.0 in
+      let room : length old.pairs < PAIR_LIMIT = grind (arith, nat_tests) in
       (room, sym (ap (λ (k : Made (Unit {0})). k.ledger) (same_answer (record { ledger = one_more_pair old pool; answer = tt }) made past.1)))
 
   module _ (absent : pair_of old.pairs pool ≡ None) (first : is_listed old.tokens (pool_token0 pool) ≡ true) (second : is_listed old.tokens (pool_token1 pool) ≡ true) where

@@ -13,7 +13,8 @@ use Rattle.amm_names.specs.declared.holder.Asset.TheVariants as assets
 use Rattle.amm_names.specs.Pools.{pool_token0, pool_token1}
 use Rattle.amm_model.specs.declared.pair.PairRecord.{PairRecord}
 use Rattle.amm_model.specs.declared.fault.Refusal.TheVariants as code
-use Rattle.amm_model.specs.Ledger.{Ledger, HoldingsByAsset, Pairs, Made, done, holdings_of, sum_held, balance, total, total_limit, token_limit, quote_limit, observation_limit, is_listed, pair_of, list, issue, retire, transfer, added, set_time}
+use Rattle.amm_model.specs.Ledger.{Ledger, HoldingsByAsset, Pairs, Made, done, holdings_of, sum_held, balance, total, is_listed, pair_of, list, issue, retire, transfer, added, set_time}
+use Rattle.amm_model.specs.declared.limits.TheConstants.{AMOUNT_LIMIT, TOKEN_LIMIT, QUOTE_LIMIT, OBSERVATION_LIMIT}
 use Rattle.amm_model.specs.Pools.{same_name, asset0, asset1}
 use Rattle.amm_model.specs.Formulas.{IsBacked}
 use Rattle.amm_model.specs.Sound.{IsSoundPair, IsKnown, IsSound, IsAtRest}
@@ -34,12 +35,12 @@ pub record Plain (old new : Ledger) : Type 0 where
 
 -- the totals are within their limit and known, and the counts within theirs
 pub record Counted (ledger : Ledger) : Type 0 where
-  pub totals : (asset : Asset) → total ledger asset ≤ total_limit
+  pub totals : (asset : Asset) → total ledger asset ≤ AMOUNT_LIMIT
   pub known : (asset : Asset) → total ledger asset ≢ 0 → IsKnown ledger asset
-  pub tokens : length ledger.tokens ≤ token_limit
-  pub time : ledger.time ≤ total_limit
-  pub quotes : length ledger.quotes ≤ quote_limit
-  pub observations : length ledger.observations ≤ observation_limit
+  pub tokens : length ledger.tokens ≤ TOKEN_LIMIT
+  pub time : ledger.time ≤ AMOUNT_LIMIT
+  pub quotes : length ledger.quotes ≤ QUOTE_LIMIT
+  pub observations : length ledger.observations ≤ OBSERVATION_LIMIT
 
 pub plain_known : (old new : Ledger) → Plain old new → (asset : Asset) → IsKnown old asset → IsKnown new asset
 plain_known old new plain (assets.Token name) is = plain.listed name is
@@ -78,7 +79,7 @@ rest_from old new rest same sound = record {
 
 -- ---- only balances change
 
-rest_counted : (old new : Ledger) → IsSound old → Rest old new → ((asset : Asset) → total new asset ≤ total_limit) → ((asset : Asset) → total new asset ≢ 0 → IsKnown new asset) → Counted new
+rest_counted : (old new : Ledger) → IsSound old → Rest old new → ((asset : Asset) → total new asset ≤ AMOUNT_LIMIT) → ((asset : Asset) → total new asset ≢ 0 → IsKnown new asset) → Counted new
 rest_counted old new sound rest totals known = record {
   totals = totals;
   known = known;
@@ -125,12 +126,12 @@ module _ (old : Ledger) (asset : Asset) (user : List ℕ) (to : Holder) (n : ℕ
 -- ---- issue
 
 -- what an accepted issue leaves
-pub issue_added : (l : Ledger) (a : Asset) (h : Holder) (n : ℕ) (made : Made (Unit {0})) → issue l a h n ≡ Ok made → (total l a + n ≤ total_limit) × Added a h n l made.ledger
+pub issue_added : (l : Ledger) (a : Asset) (h : Holder) (n : ℕ) (made : Made (Unit {0})) → issue l a h n ≡ Ok made → (total l a + n ≤ AMOUNT_LIMIT) × Added a h n l made.ledger
 unfolding issue
 issue_added l a h n made is =
-    let past = past_refusal (nat_lt total_limit (total l a + n)) code.TotalLimit _ made is in
-    let told : nat_lt total_limit (total l a + n) ≡ false = past.0 in
-    let fits : total l a + n ≤ total_limit = grind (arith, nat_tests) in
+    let past = past_refusal (nat_lt AMOUNT_LIMIT (total l a + n)) code.TotalLimit _ made is in
+    let told : nat_lt AMOUNT_LIMIT (total l a + n) ≡ false = past.0 in
+    let fits : total l a + n ≤ AMOUNT_LIMIT = grind (arith, nat_tests) in
     let e = same_answer (record { ledger = added l a h n; answer = tt }) made past.1 in
     (fits, subst (λ (k : Made (Unit {0})). Added a h n l k.ledger) e (added_added l a h n))
 
@@ -138,7 +139,7 @@ share_no_token : (pool name : List ℕ) → assets.Share pool ≢ assets.Token n
 share_no_token pool name e = cc
 
 module _ (old : Ledger) (token : List ℕ) (to : Holder) (n : ℕ) (made : Made (Unit {0})) (is : issue old (assets.Token token) to n ≡ Ok made) where
-  more : (total old (assets.Token token) + n ≤ total_limit) × Added (assets.Token token) to n old made.ledger
+  more : (total old (assets.Token token) + n ≤ AMOUNT_LIMIT) × Added (assets.Token token) to n old made.ledger
   more = issue_added old (assets.Token token) to n made is
 
   pub issue_plain : Plain old made.ledger
@@ -154,7 +155,7 @@ module _ (old : Ledger) (token : List ℕ) (to : Holder) (n : ℕ) (made : Made 
   issue_sound listed sound =
       plain_sound old made.ledger sound issue_plain (rest_counted old made.ledger sound more.1.rest
       (λ q. elim (asset_cases q (assets.Token token)) [
-        | inl e ↦ subst (λ (k : Asset). total made.ledger k ≤ total_limit) (sym e) (omega (arith, more.0, more.1.whole))
+        | inl e ↦ subst (λ (k : Asset). total made.ledger k ≤ AMOUNT_LIMIT) (sym e) (omega (arith, more.0, more.1.whole))
         | inr apart ↦ omega (arith, more.1.totals q apart, sound.totals q)
       ])
       (λ q some. elim (asset_cases q (assets.Token token)) [
@@ -214,7 +215,7 @@ module _ (old : Ledger) (fee_to : Holder) (setter : List ℕ) (time : ℕ) where
   pub set_plain : Plain old set_to
   set_plain = record { pairs = refl; listed = λ token is. is; held = λ q pool. omega arith; zero = λ q. omega arith; shares = λ pool. refl }
 
-  pub set_sound : time ≤ total_limit → IsSound old → IsSound set_to
+  pub set_sound : time ≤ AMOUNT_LIMIT → IsSound old → IsSound set_to
   set_sound limit sound = plain_sound old set_to sound set_plain record {
     totals = sound.totals;
     known = λ q some. plain_known old set_to set_plain q (sound.known q some);
@@ -236,7 +237,7 @@ module _ (old : Ledger) (time : ℕ) (made : Made (Unit {0})) (is : set_time old
   pub set_time_plain : Plain old made.ledger
   set_time_plain = subst (Plain old) later (set_plain old old.fee_to old.setter time)
 
-  pub set_time_sound : time ≤ total_limit → IsSound old → IsSound made.ledger
+  pub set_time_sound : time ≤ AMOUNT_LIMIT → IsSound old → IsSound made.ledger
   set_time_sound limit sound = subst IsSound later (set_sound old old.fee_to old.setter time limit sound)
 
   pub set_time_totals : TokenTotalsKept old made.ledger
@@ -263,7 +264,7 @@ pub record Listed (token : List ℕ) (old new : Ledger) : Type 0 where
   pub counted : IsSound old → Counted new
   pub here : is_listed new.tokens token ≡ true
 
-one_more_listed : (old : Ledger) (token : List ℕ) → length old.tokens < token_limit → Listed token old (one_more old token)
+one_more_listed : (old : Ledger) (token : List ℕ) → length old.tokens < TOKEN_LIMIT → Listed token old (one_more old token)
 one_more_listed old token room = record {
   holdings = refl;
   plain = one_more_plain old token;
@@ -288,11 +289,11 @@ listed_already old token is = record {
 
 pub list_listed : (old : Ledger) (token : List ℕ) (made : Made (Unit {0})) → list old token ≡ Ok made → Listed token old made.ledger
 list_listed old token made is =
-    elim (is_listed old.tokens token) as (λ b. is_listed old.tokens token ≡ b → (if b then done old else (if nat_le token_limit (length old.tokens) then Err code.TokenLimit else done (one_more old token))) ≡ Ok made → Listed token old made.ledger) [
+    elim (is_listed old.tokens token) as (λ b. is_listed old.tokens token ≡ b → (if b then done old else (if nat_le TOKEN_LIMIT (length old.tokens) then Err code.TokenLimit else done (one_more old token))) ≡ Ok made → Listed token old made.ledger) [
       | true ↦ λ there gives. subst (λ (k : Made (Unit {0})). Listed token old k.ledger) (same_answer (record { ledger = old; answer = tt }) made gives) (listed_already old token there)
-      | false ↦ λ absent gives. (let past = past_refusal (nat_le token_limit (length old.tokens)) code.TokenLimit (done (one_more old token)) made gives in
-          let told : nat_le token_limit (length old.tokens) ≡ false = past.0 in
-          let room : length old.tokens < token_limit = grind (arith, nat_tests) in
+      | false ↦ λ absent gives. (let past = past_refusal (nat_le TOKEN_LIMIT (length old.tokens)) code.TokenLimit (done (one_more old token)) made gives in
+          let told : nat_le TOKEN_LIMIT (length old.tokens) ≡ false = past.0 in
+          let room : length old.tokens < TOKEN_LIMIT = grind (arith, nat_tests) in
           subst (λ (k : Made (Unit {0})). Listed token old k.ledger) (same_answer (record { ledger = one_more old token; answer = tt }) made past.1) (one_more_listed old token room))
     ] refl is
 

@@ -11,7 +11,8 @@ use Rattle.amm_model.specs.declared.pair.PairRecord.{PairRecord}
 use Rattle.amm_model.specs.declared.route.Quote.{Quote}
 use Rattle.amm_model.specs.declared.observation.Observation.{Observation}
 use Rattle.amm_names.specs.Pools.{pool_token0, pool_token1}
-use Rattle.amm_model.specs.Ledger.{Ledger, Pairs, balance, total, total_limit, token_limit, quote_limit, observation_limit, is_listed, pair_of, with_pair}
+use Rattle.amm_model.specs.Ledger.{Ledger, Pairs, balance, total, is_listed, pair_of, with_pair}
+use Rattle.amm_model.specs.declared.limits.TheConstants.{AMOUNT_LIMIT, TOKEN_LIMIT, QUOTE_LIMIT, OBSERVATION_LIMIT}
 use Rattle.amm_model.specs.Pools.{supply, same_name, asset0, asset1}
 use Rattle.amm_model.specs.Sound.{IsSoundPair, IsKnown, IsSound}
 use Rattle.amm_model.specs.Formulas.{IsBacked}
@@ -112,7 +113,7 @@ pub taken_only : (pool : List ℕ) (n : ℕ) (old new : Ledger) → Taken (asset
 taken_only pool n old new taken = rest_only pool old new taken.rest (taken_kept (assets.Share pool) (holders.Pool pool) n old new taken) taken.totals
 
 -- the other pools stay sound, so only this one is left to show
-pub sound_but_at : (pool : List ℕ) (old new : Ledger) (now : PairRecord) → IsSound old → OnlyAt pool old new → pair_of new.pairs pool ≡ Some now → supply new pool ≤ total_limit → IsSoundPair new pool now → IsSound new
+pub sound_but_at : (pool : List ℕ) (old new : Ledger) (now : PairRecord) → IsSound old → OnlyAt pool old new → pair_of new.pairs pool ≡ Some now → supply new pool ≤ AMOUNT_LIMIT → IsSoundPair new pool now → IsSound new
 sound_but_at pool old new now sound only there limit this = record {
   pairs = λ other pair is. elim (name_cases other pool) [
     | inl e ↦ subst (λ (k : List ℕ). IsSoundPair new k pair) (sym e) (here pair (ap (pair_of new.pairs) (sym e) ∙ is))
@@ -120,18 +121,18 @@ sound_but_at pool old new now sound only there limit this = record {
   ];
   names = subst (λ (ks : List (List ℕ)). IsDistinct same_name ks) (sym only.names) sound.names;
   totals = λ q. elim (asset_cases q (assets.Share pool)) [
-    | inl e ↦ subst (λ (k : Asset). total new k ≤ total_limit) (sym e) limit
+    | inl e ↦ subst (λ (k : Asset). total new k ≤ AMOUNT_LIMIT) (sym e) limit
     | inr apart ↦ omega (arith, only.totals q apart, sound.totals q)
   ];
   known = λ q some. elim (asset_cases q (assets.Share pool)) [
     | inl e ↦ subst (λ (k : Asset). IsKnown new k) (sym e) (some_there (pair_of new.pairs pool) now there)
     | inr apart ↦ still q apart (sound.known q (λ none. some (only.totals q apart ∙ none)))
   ];
-  tokens = subst (λ (ts : List (List ℕ)). length ts ≤ token_limit) (sym only.tokens) sound.tokens;
+  tokens = subst (λ (ts : List (List ℕ)). length ts ≤ TOKEN_LIMIT) (sym only.tokens) sound.tokens;
   count = omega (arith, only.count, sound.count);
   time = omega (arith, only.time, sound.time);
-  quotes = subst (λ (qs : List Quote). length qs ≤ quote_limit) (sym only.quotes) sound.quotes;
-  observations = subst (λ (os : List Observation). length os ≤ observation_limit) (sym only.observations) sound.observations;
+  quotes = subst (λ (qs : List Quote). length qs ≤ QUOTE_LIMIT) (sym only.quotes) sound.quotes;
+  observations = subst (λ (os : List Observation). length os ≤ OBSERVATION_LIMIT) (sym only.observations) sound.observations;
 } where
   here : (pair : PairRecord) → pair_of new.pairs pool ≡ Some pair → IsSoundPair new pool pair
   here pair is = subst (λ (p : PairRecord). IsSoundPair new pool p) (one_value (pair_of new.pairs pool) now pair there is) this

@@ -7,7 +7,8 @@ use Rattle.amm_names.specs.declared.holder.Holder.{Holder}
 use Rattle.amm_names.specs.declared.holder.Asset.{Asset}
 use Rattle.amm_model.specs.declared.fault.Refusal.TheVariants as code
 use Rattle.amm_names.specs.Order.{same_holder}
-use Rattle.amm_model.specs.Ledger.{Ledger, Made, Outcome, done, balance, total, total_limit, added, taken, moved, transfer, issue, retire}
+use Rattle.amm_model.specs.Ledger.{Ledger, Made, Outcome, done, balance, total, added, taken, moved, transfer, issue, retire}
+use Rattle.amm_model.specs.declared.limits.TheConstants.{AMOUNT_LIMIT}
 use Rattle.amm_model.proofs.Guards.{past_refusal, same_answer}
 use Rattle.amm_model.proofs.Names.{asset_cases}
 use Rattle.amm_model.proofs.Balances.{Rest, rest_then, rest_same, Added, added_added, Taken, taken_kept, taken_taken}
@@ -70,8 +71,8 @@ retire_taken l a f n made is =
     (funds, subst (λ (k : Made (Unit {0})). Taken a f n l k.ledger) e (taken_taken l a f n funds))
 
 -- an issue within the limit is granted
-pub issue_granted : (l : Ledger) (a : Asset) (h : Holder) (n : ℕ) → total l a + n ≤ total_limit → issue l a h n ≡ done (added l a h n)
+pub issue_granted : (l : Ledger) (a : Asset) (h : Holder) (n : ℕ) → total l a + n ≤ AMOUNT_LIMIT → issue l a h n ≡ done (added l a h n)
 unfolding issue
 issue_granted l a h n fits =
-    let room : nat_lt total_limit (total l a + n) ≡ false = le-ltb total_limit (total l a + n) fits in
+    let room : nat_lt AMOUNT_LIMIT (total l a + n) ≡ false = le-ltb AMOUNT_LIMIT (total l a + n) fits in
     rw room

@@ -8,7 +8,7 @@ use Rattle.amm_model.specs.declared.route.Leg.{Leg}
 use Rattle.amm_model.specs.declared.route.Quote.{Quote}
 use Rattle.amm_model.specs.Routing.{ArePrices, IsProblem, fee_of}
 use Rattle.amm_model.specs.Legs.{leg_pool, token_in}
-use Rattle.amm_model.specs.Forms.{amount_max}
+use Rattle.amm_model.specs.declared.limits.TheConstants.{AMOUNT_LIMIT, PAIR_LIMIT}
 use Rattle.amm_model.specs.Json.{whole, wide, list, json_value}
 
 -- a pool with its reserves and balances
@@ -48,9 +48,9 @@ certificate_text quote = compact_text (certificate_value quote)
 -- A quote that can be written: a price for each token, at most 256 legs, each over a pool of the problem with amounts of at most 2^52-1.
 pub record IsWritable (quote : Quote) : Type 0 where
   pub priced : length quote.prices ≡ length quote.problem.tokens
-  pub few : length quote.route.legs ≤ 256
+  pub few : length quote.route.legs ≤ PAIR_LIMIT
   pub there : All (λ (leg : Leg). leg.pool < length quote.problem.pools) quote.route.legs
-  pub amounts : All (λ (leg : Leg). (leg.input ≤ amount_max) × (leg.output ≤ amount_max)) quote.route.legs
+  pub amounts : All (λ (leg : Leg). (leg.input ≤ AMOUNT_LIMIT) × (leg.output ≤ AMOUNT_LIMIT)) quote.route.legs
 
 -- A version that pools may be written in: version 1 has only pools of the fee of 3, which are spelled without a fee; version 2 has any.
 abbrev pub IsVersionFor : ℕ → List ProblemPool → Type 0

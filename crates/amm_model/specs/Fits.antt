@@ -6,22 +6,22 @@ use Rattle.amm_names.specs.Pools.{is_pool_name}
 use Rattle.amm_model.specs.declared.path.RoutePath.{RoutePath}
 use Rattle.amm_model.specs.declared.command.AddWant.{AddWant}
 use Rattle.amm_model.specs.declared.command.RemoveWant.{RemoveWant}
-use Rattle.amm_model.specs.Ledger.{total_limit}
+use Rattle.amm_model.specs.declared.limits.TheConstants.{AMOUNT_LIMIT, PATH_LEAST, PATH_LIMIT}
 use Rattle.amm_model.specs.Swap.{IsFee}
 use Rattle.amm_model.specs.CommandView as view
 use Rattle.amm_model.specs.CommandView.{CommandView, Move, Moves}
 
 -- an amount, a time, a deadline or a number: at most 2^52-1
 abbrev pub IsAmount : ℕ → Type 0
-IsAmount n = n ≤ total_limit
+IsAmount n = n ≤ AMOUNT_LIMIT
 
 -- two to eight tokens, and one fee fewer
 pub record IsPath (path : RoutePath) : Type 0 where
   pub tokens : All (λ token. IsTrue (is_token_name token)) path.tokens
   pub fees : All IsFee path.fees
   pub between : suc (length path.fees) ≡ length path.tokens
-  pub least : 2 ≤ length path.tokens
-  pub most : length path.tokens ≤ 8
+  pub least : PATH_LEAST ≤ length path.tokens
+  pub most : length path.tokens ≤ PATH_LIMIT
 
 pub record FitsAdd (want : AddWant) : Type 0 where
   pub a : IsTrue (is_token_name want.a)

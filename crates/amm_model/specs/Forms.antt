@@ -12,6 +12,7 @@ use Rattle.amm_model.specs.declared.fault.Refusal.TheVariants.{BadCommand}
 use Rattle.amm_model.specs.declared.path.RoutePath.{RoutePath}
 use Rattle.amm_model.specs.Outcome.{◌>>=◌}
 use Rattle.amm_model.specs.Json.{elements}
+use Rattle.amm_model.specs.declared.limits.TheConstants.{AMOUNT_LIMIT, PATH_LEAST, PATH_LIMIT}
 
 -- the value, where it passes the test
 abbrev pub fitting : {A : Type 0} → Bool → A → Result A Refusal
@@ -61,15 +62,11 @@ as_holder d = do
   name ← as_text d
   ok_or (holder_of name) BadCommand
 
--- the greatest amount, 2^52-1
-abbrev pub amount_max : ℕ
-amount_max = 4503599627370495
-
 -- any amount, time, deadline or number
 unfoldable pub as_amount : Data → Result ℕ Refusal
 as_amount d = do
   n ← as_whole d
-  fitting (nat_le n amount_max) n
+  fitting (nat_le n AMOUNT_LIMIT) n
 
 -- the number 1, 3 or 10
 unfoldable pub as_fee : Data → Result ℕ Refusal
@@ -114,4 +111,4 @@ unfoldable pub as_path : Data → Result RoutePath Refusal
 as_path d = do
   ds ← as_list d
   path ← path_along ds
-  fitting (nat_le 2 (length path.tokens) && nat_le (length path.tokens) 8) path
+  fitting (nat_le PATH_LEAST (length path.tokens) && nat_le (length path.tokens) PATH_LIMIT) path

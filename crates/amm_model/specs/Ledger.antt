@@ -14,6 +14,7 @@ use Rattle.amm_model.specs.declared.route.Quote.{Quote}
 use Rattle.amm_model.specs.declared.fault.Refusal.{Refusal}
 use Rattle.amm_model.specs.declared.fault.Refusal.TheVariants.{Funds, TotalLimit, TokenLimit, PairLimit, TimeBack}
 use Rattle.amm_names.specs.Order.{holder_cmp, asset_cmp, same_holder}
+use Rattle.amm_model.specs.declared.limits.TheConstants.{AMOUNT_LIMIT, TOKEN_LIMIT, PAIR_LIMIT}
 
 -- what each holder has of one asset, where it has some
 abbrev pub Holdings : Type 0
@@ -92,10 +93,6 @@ is_listed tokens token = list_any (pointwise nat_eq token) tokens
 abbrev pub set_balance : Ledger → Asset → Holder → ℕ → Ledger
 set_balance ledger asset holder n = record ledger { holdings = set_holdings ledger.holdings asset (set_amount (holdings_of ledger.holdings asset) holder n) }
 
--- the most units that an asset can have
-abbrev pub total_limit : ℕ
-total_limit = 4503599627370495
-
 -- the ledger after an operation, and its answer
 pub record Made (A : Type 0) : Type 0 where
   pub ledger : Ledger
@@ -129,7 +126,7 @@ transfer ledger asset from to n =
 
 unfoldable pub issue : Ledger → Asset → Holder → ℕ → Outcome (Unit {0})
 issue ledger asset holder n =
-    if nat_lt total_limit (total ledger asset + n) then Err TotalLimit
+    if nat_lt AMOUNT_LIMIT (total ledger asset + n) then Err TotalLimit
     else done (added ledger asset holder n)
 
 unfoldable pub retire : Ledger → Asset → Holder → ℕ → Outcome (Unit {0})
@@ -137,23 +134,15 @@ retire ledger asset holder n =
     if nat_lt (balance ledger asset holder) n then Err Funds
     else done (taken ledger asset holder n)
 
--- the most tokens that can be listed
-abbrev pub token_limit : ℕ
-token_limit = 64
-
 abbrev pub list : Ledger → List ℕ → Outcome (Unit {0})
 list ledger token =
     if is_listed ledger.tokens token then done ledger
-    else (if nat_le token_limit (length ledger.tokens) then Err TokenLimit
+    else (if nat_le TOKEN_LIMIT (length ledger.tokens) then Err TokenLimit
     else done (record ledger { tokens = ledger.tokens ++ token ∷ [] }))
-
--- the most pairs that can be
-abbrev pub pair_limit : ℕ
-pair_limit = 256
 
 abbrev pub add_pair : Ledger → List ℕ → Outcome (Unit {0})
 add_pair ledger pool =
-    if nat_le pair_limit (length ledger.pairs) then Err PairLimit
+    if nat_le PAIR_LIMIT (length ledger.pairs) then Err PairLimit
     else done (record ledger { pairs = ledger.pairs ++ (pool, zero_pair) ∷ [] })
 
 -- the ledger with another receiver of the protocol's fee
@@ -169,11 +158,3 @@ abbrev pub set_time : Ledger → ℕ → Outcome (Unit {0})
 set_time ledger time =
     if nat_lt time ledger.time then Err TimeBack
     else done (record ledger { time = time })
-
--- the most quotes that are kept
-abbrev pub quote_limit : ℕ
-quote_limit = 256
-
--- the most observations that are kept
-abbrev pub observation_limit : ℕ
-observation_limit = 4096

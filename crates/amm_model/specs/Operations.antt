@@ -15,7 +15,8 @@ use Rattle.amm_names.specs.Pools.{pool_token0, pool_token1, pool_fee}
 use Rattle.amm_model.specs.Root.{root_of}
 use Rattle.amm_model.specs.Swap.{admits}
 use Rattle.amm_model.specs.Formulas.{later_shares_of, fee_shares_of, accumulated}
-use Rattle.amm_model.specs.Pools.{same_name, asset0, asset1, held0, held1, supply, reserve_limit, first_locked, Terms}
+use Rattle.amm_model.specs.Pools.{same_name, asset0, asset1, held0, held1, supply, Terms}
+use Rattle.amm_model.specs.declared.limits.TheConstants.{RESERVE_LIMIT, FIRST_LOCKED}
 use Rattle.amm_model.specs.Ledger.{Ledger, Outcome, done, balance, added, transfer, retire, pair_of, with_pair}
 
 -- the pair of a pool, if it has one
@@ -41,8 +42,8 @@ renewed pair time b0 b1 = record (accumulated pair time) { r0 = b0; r1 = b1 }
 -- the record with these balances as its reserves, if both are within the limit of a reserve (core, _update)
 unfoldable pub updated_to : PairRecord → (time b0 b1 : ℕ) → Result PairRecord Refusal
 updated_to pair time b0 b1 =
-    if nat_lt reserve_limit b0 then Err code.Overflow
-    else (if nat_lt reserve_limit b1 then Err code.Overflow
+    if nat_lt RESERVE_LIMIT b0 then Err code.Overflow
+    else (if nat_lt RESERVE_LIMIT b1 then Err code.Overflow
     else Ok (renewed pair time b0 b1))
 
 -- the record with what the pool has as its reserves
@@ -153,13 +154,13 @@ with_product nobody pair = if nobody then pair else record pair { k_last = pair.
 -- the shares for what was brought above the reserves: at first the root of the product of the amounts, less the first ones (whitepaper 3.4), and then in proportion to the supply
 unfoldable pub shares_for : Ledger → List ℕ → PairRecord → (supply : ℕ) → ℕ
 shares_for ledger pool pair supply =
-    if supply == 0 then root_of ((held0 ledger pool - pair.r0) * (held1 ledger pool - pair.r1)) - first_locked
+    if supply == 0 then root_of ((held0 ledger pool - pair.r0) * (held1 ledger pool - pair.r1)) - FIRST_LOCKED
     else later_shares_of (held0 ledger pool - pair.r0) (held1 ledger pool - pair.r1) supply pair.r0 pair.r1
 
 -- the ledger with n shares given; the first shares of all are given together with those that the zero holder keeps for ever (core, mint)
 unfoldable pub with_shares : Ledger → List ℕ → Holder → (supply n : ℕ) → Ledger
 with_shares ledger pool to supply n =
-    if supply == 0 then added (added ledger (asset.Share pool) to n) (asset.Share pool) holder.Zero first_locked
+    if supply == 0 then added (added ledger (asset.Share pool) to n) (asset.Share pool) holder.Zero FIRST_LOCKED
     else added ledger (asset.Share pool) to n
 
 -- the ledger with the fee and n shares given

@@ -30,14 +30,6 @@ held1 ledger pool = balance ledger (asset1 pool) (holder.Pool pool)
 abbrev pub supply : Ledger → List ℕ → ℕ
 supply ledger pool = total ledger (asset.Share pool)
 
--- the most that a reserve can be, 2^48-1
-abbrev pub reserve_limit : ℕ
-reserve_limit = 281474976710655
-
--- how many of the first shares nobody can take out again (whitepaper 3.4)
-abbrev pub first_locked : ℕ
-first_locked = 1000
-
 -- what a loan was made of: its pool, its outputs, and the pair's record, which is locked
 pub record Terms : Type 0 where
   pub pool : List ℕ

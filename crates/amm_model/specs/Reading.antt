@@ -9,6 +9,7 @@ use Rattle.amm_model.specs.Json.{json_value, each}
 use Rattle.amm_model.specs.Forms.{fitting, as_text, as_list, as_user, as_token, as_pool, as_asset, as_holder, as_amount, as_path, fee_behind}
 use Rattle.amm_model.specs.CommandView as command
 use Rattle.amm_model.specs.CommandView.{CommandView, Move, Moves, no_moves, move, moves_of}
+use Rattle.amm_model.specs.declared.limits.TheConstants.{LOAN_LIMIT, STEP_LIMIT}
 
 -- ---- what only a line can be: the elements behind the kind
 
@@ -257,10 +258,6 @@ as_steps (suc loans) actor d = do
   moves ← each (as_step (as_steps loans actor) actor) ds
   Ok (moves_of moves)
 
--- the most loans that are open at once
-abbrev pub loans_max : ℕ
-loans_max = 8
-
 abbrev mutual
   -- how many steps a list has, with those inside its loans
   pub step_count : Moves → ℕ
@@ -272,18 +269,14 @@ abbrev mutual
   steps_inside (command.flash pool out0 out1 steps) = step_count steps
   steps_inside _ = 0
 
--- the most steps inside a command
-abbrev pub steps_max : ℕ
-steps_max = 256
-
 -- ---- lines
 
 -- a command that a step can be too: its actor, and what the row of the kind wants
 abbrev pub act_row : List ℕ → List Data → Result CommandView Refusal
 act_row kind (user ∷ rest) = do
   actor ← as_user user
-  m ← move_row (as_steps loans_max actor) kind rest
-  fitting (nat_le (steps_inside m) steps_max) (command.act actor m)
+  m ← move_row (as_steps LOAN_LIMIT actor) kind rest
+  fitting (nat_le (steps_inside m) STEP_LIMIT) (command.act actor m)
 act_row kind [] = Err BadCommand
 
 -- the row of a kind

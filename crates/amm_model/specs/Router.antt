@@ -19,7 +19,8 @@ use Rattle.amm_model.specs.declared.command.RemoveWant.{RemoveWant}
 use Rattle.amm_model.specs.declared.fault.Refusal.{Refusal}
 use Rattle.amm_model.specs.declared.fault.Refusal.TheVariants as code
 use Rattle.amm_model.specs.Outcome.{◌>>=◌, refuse_if}
-use Rattle.amm_model.specs.Ledger.{Ledger, Outcome, done, transfer, pair_of, total_limit}
+use Rattle.amm_model.specs.Ledger.{Ledger, Outcome, done, transfer, pair_of}
+use Rattle.amm_model.specs.declared.limits.TheConstants.{AMOUNT_LIMIT}
 use Rattle.amm_model.specs.Pools.{asset0, asset1}
 use Rattle.amm_model.specs.Swap.{amount_out_of, amount_in_of, quote_of}
 use Rattle.amm_model.specs.Operations.{if_there, swap, mint, burn}
@@ -96,7 +97,7 @@ out_along ledger path x = do
 unfoldable pub in_along : Ledger → RoutePath → ℕ → Result Plan Refusal
 in_along ledger path y = do
   plan ← in_from_first ledger path.tokens path.fees y
-  _ ← refuse_if (nat_lt total_limit plan.input) code.AmountLimit
+  _ ← refuse_if (nat_lt AMOUNT_LIMIT plan.input) code.AmountLimit
   Ok plan
 
 -- the first amount, and what each pool pays

@@ -11,6 +11,7 @@ use Rattle.amm_model.specs.declared.problem.ProblemPool.{ProblemPool}
 use Rattle.amm_model.specs.declared.problem.TokenPlaces.{TokenPlaces}
 use Rattle.amm_model.specs.contracts.problem.Part as part
 use Rattle.amm_model.specs.contracts.problem.ProblemPool as pool
+use Rattle.amm_model.specs.declared.limits.TheConstants.{PART_LIMIT, PAIR_LIMIT}
 
 -- A name, as its bytes.
 abbrev pub Name : Type 0
@@ -76,11 +77,11 @@ HasBalances pool = (pool.r0 ≤ pool.b0) × (pool.b0 < 2 ^ 52) × (pool.r1 ≤ p
 
 -- What a problem can be made of: at most eight parts of 1 to 2^52-1 each, in the order of their tokens, none of which is t, and at most 256 pools in the order of their names.
 pub record AreOpenParts (parts : List Part) (t : Name) (pools : List ProblemPool) : Type 0 where
-  pub few_parts : length parts ≤ 8
+  pub few_parts : length parts ≤ PART_LIMIT
   pub rising : AllPairs (λ (a b : Part). IsBefore a.token b.token) parts
   pub apart : All (λ (part : Part). part.token ≢ t) parts
   pub amounts : All (λ (part : Part). (1 ≤ part.amount) × (part.amount < 2 ^ 52)) parts
-  pub few : length pools ≤ 256
+  pub few : length pools ≤ PAIR_LIMIT
   pub names : AllPairs (λ (a b : ProblemPool). IsBefore a.name b.name) pools
   pub reserves : All HasReserves pools
   pub balances : All HasBalances pools

@@ -8,13 +8,14 @@ use Rattle.amm_names.specs.declared.holder.Asset.TheVariants as asset
 use Rattle.amm_model.specs.declared.pair.PairRecord.{PairRecord}
 use Rattle.amm_names.specs.Pools.{pool_token0, pool_token1}
 use Rattle.amm_model.specs.Formulas.{IsBacked}
-use Rattle.amm_model.specs.Ledger.{Ledger, balance, total, total_limit, token_limit, pair_limit, quote_limit, observation_limit, is_listed, pair_of}
-use Rattle.amm_model.specs.Pools.{Terms, held0, held1, supply, reserve_limit, first_locked, same_name}
+use Rattle.amm_model.specs.Ledger.{Ledger, balance, total, is_listed, pair_of}
+use Rattle.amm_model.specs.declared.limits.TheConstants.{AMOUNT_LIMIT, TOKEN_LIMIT, PAIR_LIMIT, QUOTE_LIMIT, OBSERVATION_LIMIT, RESERVE_LIMIT, FIRST_LOCKED}
+use Rattle.amm_model.specs.Pools.{Terms, held0, held1, supply, same_name}
 
 -- the numbers of the record are within their widths
 pub record IsSmall (pair : PairRecord) : Type 0 where
-  pub r0 : pair.r0 ≤ reserve_limit
-  pub r1 : pair.r1 ≤ reserve_limit
+  pub r0 : pair.r0 ≤ RESERVE_LIMIT
+  pub r1 : pair.r1 ≤ RESERVE_LIMIT
   pub last : pair.last < 2 ^ 32
   pub acc0 : pair.acc0 < 2 ^ 128
   pub acc1 : pair.acc1 < 2 ^ 128
@@ -31,7 +32,7 @@ pub record IsSoundPair (ledger : Ledger) (pool : List ℕ) (pair : PairRecord) :
   pub small : IsSmall pair
   pub covered : pair.locked ≡ false → IsCovered ledger pool pair
   pub backed : IsBacked (supply ledger pool) pair.r0 pair.r1 pair.k_last
-  pub kept : (supply ledger pool ≡ 0) ⊎ (first_locked ≤ balance ledger (asset.Share pool) holder.Zero)
+  pub kept : (supply ledger pool ≡ 0) ⊎ (FIRST_LOCKED ≤ balance ledger (asset.Share pool) holder.Zero)
 
 -- a listed token, or the shares of a pair that is there
 abbrev pub IsKnown : Ledger → Asset → Type 0
@@ -42,13 +43,13 @@ IsKnown ledger (asset.Share pool) = IsSome (pair_of ledger.pairs pool)
 pub record IsSound (ledger : Ledger) : Type 0 where
   pub pairs : (pool : List ℕ) (pair : PairRecord) → pair_of ledger.pairs pool ≡ Some pair → IsSoundPair ledger pool pair
   pub names : IsDistinct same_name (keys_of ledger.pairs)
-  pub totals : (asset : Asset) → total ledger asset ≤ total_limit
+  pub totals : (asset : Asset) → total ledger asset ≤ AMOUNT_LIMIT
   pub known : (asset : Asset) → total ledger asset ≢ 0 → IsKnown ledger asset
-  pub tokens : length ledger.tokens ≤ token_limit
-  pub count : length ledger.pairs ≤ pair_limit
-  pub time : ledger.time ≤ total_limit
-  pub quotes : length ledger.quotes ≤ quote_limit
-  pub observations : length ledger.observations ≤ observation_limit
+  pub tokens : length ledger.tokens ≤ TOKEN_LIMIT
+  pub count : length ledger.pairs ≤ PAIR_LIMIT
+  pub time : ledger.time ≤ AMOUNT_LIMIT
+  pub quotes : length ledger.quotes ≤ QUOTE_LIMIT
+  pub observations : length ledger.observations ≤ OBSERVATION_LIMIT
 
 -- sound, and no pair is locked
 pub record IsAtRest (ledger : Ledger) : Type 0 where

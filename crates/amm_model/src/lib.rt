@@ -5,6 +5,7 @@ mod amounts;
 mod byte_line;
 mod command;
 mod fault;
+pub mod limits;
 mod line;
 mod list;
 mod observation;

@@ -5,21 +5,16 @@ ghost use Rattle.amm_model.specs.declared.problem.Part as part_view;
 ghost use Rattle.amm_model.specs.declared.problem.ProblemPool as pool_view;
 ghost use Rattle.amm_model.specs.Routing.{AreOpenParts, AreSpelled, HasBalances, HasReserves, IsBefore, part_place, places_of as places_of_pool, token_place, tokens_named as tokens_named_by, tokens_of_pools};
 
+use crate::limits::{AMOUNT_LIMIT, PAIR_LIMIT, PART_LIMIT, RESERVE_LIMIT};
 use crate::{Part, ProblemPool, TokenPlaces};
 use amm_names::{Memory, TokenName};
 use std::alloc::Global;
-
-// The greatest reserve of a pool.
-const MAX_RESERVE: u64 = 0xffff_ffff_ffff;
-
-// The greatest amount and the greatest balance.
-const MAX_AMOUNT: u64 = 0xf_ffff_ffff_ffff;
 
 /// Whether a problem can be made of these parts.
 pub fn are_parts(parts: &[Part], t: &TokenName, pools: &[ProblemPool]) -> bool
     ensures { IsTrue result ↔ AreOpenParts parts.now t.now pools.now }
 {
-    if parts.len() > 8 || pools.len() > 256 {
+    if parts.len() > PART_LIMIT || pools.len() > PAIR_LIMIT {
         return false;
     }
     are_rising(parts) && are_given(parts, t) && are_ascending(pools) && are_filled(pools)
@@ -43,7 +38,7 @@ fn are_given(parts: &[Part], t: &TokenName) -> bool
         × All (λ (part : part_view.Part). (1 ≤ part.amount) × (part.amount < 2 ^ 52)) parts.now) }
 {
     for part in parts {
-        if part.token == *t || part.amount == 0 || part.amount > MAX_AMOUNT {
+        if part.token == *t || part.amount == 0 || part.amount > AMOUNT_LIMIT {
             return false;
         }
     }
@@ -77,7 +72,7 @@ fn are_filled(pools: &[ProblemPool]) -> bool
 fn is_filled(reserve: u64, balance: u64) -> bool
     ensures { IsTrue result ↔ ((1 ≤ reserve) × (reserve < 2 ^ 48) × (reserve ≤ balance) × (balance < 2 ^ 52)) }
 {
-    0 < reserve && reserve <= MAX_RESERVE && reserve <= balance && balance <= MAX_AMOUNT
+    0 < reserve && reserve <= RESERVE_LIMIT && reserve <= balance && balance <= AMOUNT_LIMIT
 }
 
 /// Does nothing: the names of a problem are spelled as their types say.

@@ -2,6 +2,7 @@
 ghost use Rattle.std.specs.Prelude.{◌≡◌, ◌↔◌, IsTrue, IfOk, MatchOption};
 ghost use Rattle.amm_model.specs.Routing.{ArePrices};
 
+use crate::limits::PRICE_LIMIT;
 use amm_names::Memory;
 use std::alloc::Global;
 use std::marker::Model;
@@ -59,11 +60,8 @@ pub struct Turn {
     pub up: bool,
 }
 
-// Prices are below this.
-const PRICE_LIMIT: u64 = 0x100_0000_0000;
-
 fn are_prices(list: &[u64]) -> bool
     ensures { IsTrue result ↔ ArePrices list.now }
 {
-    list.iter().all(|price| 0 < *price && *price < PRICE_LIMIT)
+    list.iter().all(|price| 0 < *price && *price <= PRICE_LIMIT)
 }

@@ -3,7 +3,8 @@ use Rattle.std.proofs.Common.{◌≡◌, ◌≤◌, ◌<◌, ◌+◌, ◌*◌, �
 use Rattle.amm_model.specs.declared.pair.PairRecord.{PairRecord}
 use Rattle.amm_model.specs.Formulas.{IsBacked}
 use Rattle.amm_model.specs.Ledger.{Ledger, pair_of, with_pair}
-use Rattle.amm_model.specs.Pools.{held0, held1, supply, reserve_limit}
+use Rattle.amm_model.specs.Pools.{held0, held1, supply}
+use Rattle.amm_model.specs.declared.limits.TheConstants.{RESERVE_LIMIT}
 use Rattle.amm_model.specs.Operations.{renewed, is_nobody, after_fee, with_product, PerShareKept}
 use Rattle.amm_model.specs.Sound.{IsSmall, IsSound}
 use Rattle.amm_model.proofs.Names.{some_there, one_value, pair_of-set_here}
@@ -19,7 +20,7 @@ record Closed (s b0 b1 : ℕ) (final : PairRecord) : Type 0 where
   pub r1 : final.r1 ≡ b1
   pub backed : IsBacked s final.r0 final.r1 final.k_last
 
-closed : (nobody : Bool) (pair : PairRecord) (time s b0 b1 : ℕ) → IsSmall pair → b0 ≤ reserve_limit → b1 ≤ reserve_limit → s * s ≤ b0 * b1
+closed : (nobody : Bool) (pair : PairRecord) (time s b0 b1 : ℕ) → IsSmall pair → b0 ≤ RESERVE_LIMIT → b1 ≤ RESERVE_LIMIT → s * s ≤ b0 * b1
     → Closed s b0 b1 (with_product nobody (renewed (after_fee nobody pair) time b0 b1))
 closed true pair time s b0 b1 small s0 s1 square =
     let fine = renewed_small pair time b0 b1 small s0 s1 in

@@ -12,8 +12,9 @@ use Rattle.amm_model.specs.declared.pair.SkimReceipt.{SkimReceipt}
 use Rattle.amm_model.specs.declared.fault.Refusal.TheVariants as code
 use Rattle.amm_names.specs.Pools.{pool_token0, pool_token1}
 use Rattle.amm_model.specs.Formulas.{IsBacked, grown}
-use Rattle.amm_model.specs.Ledger.{Ledger, Made, Pairs, balance, total, total_limit, pair_of, set_pair, with_pair, transfer, is_listed}
-use Rattle.amm_model.specs.Pools.{asset0, asset1, held0, held1, supply, first_locked, reserve_limit}
+use Rattle.amm_model.specs.Ledger.{Ledger, Made, Pairs, balance, total, pair_of, set_pair, with_pair, transfer, is_listed}
+use Rattle.amm_model.specs.declared.limits.TheConstants.{AMOUNT_LIMIT, FIRST_LOCKED, RESERVE_LIMIT}
+use Rattle.amm_model.specs.Pools.{asset0, asset1, held0, held1, supply}
 use Rattle.amm_model.specs.Operations.{if_free, free_pair, renewed, updated_to, updated, sync, skim, excess}
 use Rattle.amm_model.specs.Sound.{IsSmall, IsCovered, IsSoundPair, IsSound}
 use Rattle.amm_model.proofs.Guards.{given, past_refusal, same_answer}
@@ -40,16 +41,16 @@ free_found ledger pool pair is = found ledger pool _ pair refl is
 -- what an update makes of a record
 pub record Renewed (ledger : Ledger) (pool : List ℕ) (pair new : PairRecord) : Type 0 where
   pub is : new ≡ renewed pair ledger.time (held0 ledger pool) (held1 ledger pool)
-  pub small0 : held0 ledger pool ≤ reserve_limit
-  pub small1 : held1 ledger pool ≤ reserve_limit
+  pub small0 : held0 ledger pool ≤ RESERVE_LIMIT
+  pub small1 : held1 ledger pool ≤ RESERVE_LIMIT
 
 pub updated_renewed : (ledger : Ledger) (pool : List ℕ) (pair new : PairRecord) → updated ledger pool pair ≡ Ok new → Renewed ledger pool pair new
 unfolding updated_to
 updated_renewed ledger pool pair new is =
-    let first = past_refusal (nat_lt reserve_limit (held0 ledger pool)) code.Overflow _ new is in
-    let second = past_refusal (nat_lt reserve_limit (held1 ledger pool)) code.Overflow _ new first.1 in
-    let told0 : nat_lt reserve_limit (held0 ledger pool) ≡ false = first.0 in
-    let told1 : nat_lt reserve_limit (held1 ledger pool) ≡ false = second.0 in
+    let first = past_refusal (nat_lt RESERVE_LIMIT (held0 ledger pool)) code.Overflow _ new is in
+    let second = past_refusal (nat_lt RESERVE_LIMIT (held1 ledger pool)) code.Overflow _ new first.1 in
+    let told0 : nat_lt RESERVE_LIMIT (held0 ledger pool) ≡ false = first.0 in
+    let told1 : nat_lt RESERVE_LIMIT (held1 ledger pool) ≡ false = second.0 in
     record {
       is = sym (same_answer (renewed pair ledger.time (held0 ledger pool) (held1 ledger pool)) new second.1);
       small0 = grind (arith, nat_tests);
@@ -65,7 +66,7 @@ grown-small : (acc p q e : ℕ) → acc < 2 ^ 128 → grown acc p q e < 2 ^ 128
 grown-small acc p q e small = kept_or_wrapped (nat_eq p 0) (nat_eq q 0) acc _ small
 
 -- the renewed record is within the widths
-pub renewed_small : (pair : PairRecord) (time b0 b1 : ℕ) → IsSmall pair → b0 ≤ reserve_limit → b1 ≤ reserve_limit → IsSmall (renewed pair time b0 b1)
+pub renewed_small : (pair : PairRecord) (time b0 b1 : ℕ) → IsSmall pair → b0 ≤ RESERVE_LIMIT → b1 ≤ RESERVE_LIMIT → IsSmall (renewed pair time b0 b1)
 renewed_small pair time b0 b1 small s0 s1 = record {
   r0 = s0;
   r1 = s1;
@@ -83,11 +84,11 @@ backed_grown s r0 r1 b0 b1 k up backed = record {
 
 -- the first shares of the pool lie with the zero holder
 abbrev pub IsKept : Ledger → List ℕ → Type 0
-IsKept ledger pool = (supply ledger pool ≡ 0) ⊎ (first_locked ≤ balance ledger (assets.Share pool) holders.Zero)
+IsKept ledger pool = (supply ledger pool ≡ 0) ⊎ (FIRST_LOCKED ≤ balance ledger (assets.Share pool) holders.Zero)
 
 -- a new record whose reserves are what the pool has keeps the ledger sound
 pub settled_sound : (pool : List ℕ) (old mid : Ledger) (was now : PairRecord) → IsSound old → pair_of old.pairs pool ≡ Some was → OnlyAt pool old mid → pair_of mid.pairs pool ≡ Some was
-    → supply mid pool ≤ total_limit → IsSmall now → now.r0 ≡ held0 mid pool → now.r1 ≡ held1 mid pool → IsBacked (supply mid pool) now.r0 now.r1 now.k_last → IsKept mid pool
+    → supply mid pool ≤ AMOUNT_LIMIT → IsSmall now → now.r0 ≡ held0 mid pool → now.r1 ≡ held1 mid pool → IsBacked (supply mid pool) now.r0 now.r1 now.k_last → IsKept mid pool
     → IsSound (with_pair mid pool now)
 settled_sound pool old mid was now sound at only still limit small e0 e1 backed kept =
     let there = some_there (pair_of mid.pairs pool) was still in

@@ -13,8 +13,9 @@ use Rattle.amm_model.specs.declared.fault.Refusal.TheVariants as code
 use Rattle.amm_names.specs.Pools.{pool_token0, pool_token1}
 use Rattle.amm_model.specs.Formulas.{IsBacked, fee_shares_of, later_shares_of}
 use Rattle.amm_model.specs.Root.{root_of}
-use Rattle.amm_model.specs.Ledger.{Ledger, Made, Pairs, balance, total, total_limit, added, pair_of, with_pair}
-use Rattle.amm_model.specs.Pools.{asset0, asset1, held0, held1, supply, first_locked}
+use Rattle.amm_model.specs.Ledger.{Ledger, Made, Pairs, balance, total, added, pair_of, with_pair}
+use Rattle.amm_model.specs.declared.limits.TheConstants.{AMOUNT_LIMIT, FIRST_LOCKED}
+use Rattle.amm_model.specs.Pools.{asset0, asset1, held0, held1, supply}
 use Rattle.amm_model.specs.Operations.{free_pair, updated, is_nobody, fee_due, with_fee, after_fee, with_product, shares_for, with_shares, minted, mint, PerShareKept}
 use Rattle.amm_model.specs.Sound.{IsCovered, IsSoundPair, IsSound}
 use Rattle.amm_model.proofs.LedgerLemmas.{balance_within_total}
@@ -38,10 +39,10 @@ shares_square l pool pair s cover0 cover1 backed some =
     rw (e0, e1) at square
 
 pub shares_room : (l : Ledger) (pool : List ℕ) (pair : PairRecord) (s : ℕ) → IsSound l → pair.r0 ≤ held0 l pool → pair.r1 ≤ held1 l pool → s * s ≤ pair.r0 * pair.r1
-    → shares_for l pool pair s ≢ 0 → s + (shares_for l pool pair s + locked_first s) ≤ total_limit
+    → shares_for l pool pair s ≢ 0 → s + (shares_for l pool pair s + locked_first s) ≤ AMOUNT_LIMIT
 shares_room l pool pair s sound cover0 cover1 backed some =
-    let within0 : held0 l pool ≤ total_limit = omega (arith, balance_within_total l (asset0 pool) (holders.Pool pool), sound.totals (asset0 pool)) in
-    let within1 : held1 l pool ≤ total_limit = omega (arith, balance_within_total l (asset1 pool) (holders.Pool pool), sound.totals (asset1 pool)) in
+    let within0 : held0 l pool ≤ AMOUNT_LIMIT = omega (arith, balance_within_total l (asset0 pool) (holders.Pool pool), sound.totals (asset0 pool)) in
+    let within1 : held1 l pool ≤ AMOUNT_LIMIT = omega (arith, balance_within_total l (asset1 pool) (holders.Pool pool), sound.totals (asset1 pool)) in
     square_within _ (held0 l pool) (held1 l pool) (shares_square l pool pair s cover0 cover1 backed some) within0 within1
 
 -- n shares of the pool were added, to anybody
@@ -78,15 +79,15 @@ fee_grown l pool fee = by_test (fee == 0) refl
 -- and where there were none, the zero holder has the first
 pub record Shared (pool : List ℕ) (before n : ℕ) (old new : Ledger) : Type 0 where
   pub grown : Grown pool (n + locked_first before) old new
-  pub first : before ≡ 0 → first_locked ≤ balance new (assets.Share pool) holders.Zero
+  pub first : before ≡ 0 → FIRST_LOCKED ≤ balance new (assets.Share pool) holders.Zero
 
 shares_by : (l : Ledger) (pool : List ℕ) (to : Holder) (before n : ℕ) (b : Bool) → (before == 0) ≡ b
-    → Grown pool (n + (if b then first_locked else 0)) l (if b then added (added l (assets.Share pool) to n) (assets.Share pool) holders.Zero first_locked else added l (assets.Share pool) to n)
-    × (before ≡ 0 → first_locked ≤ balance (if b then added (added l (assets.Share pool) to n) (assets.Share pool) holders.Zero first_locked else added l (assets.Share pool) to n) (assets.Share pool) holders.Zero)
+    → Grown pool (n + (if b then FIRST_LOCKED else 0)) l (if b then added (added l (assets.Share pool) to n) (assets.Share pool) holders.Zero FIRST_LOCKED else added l (assets.Share pool) to n)
+    × (before ≡ 0 → FIRST_LOCKED ≤ balance (if b then added (added l (assets.Share pool) to n) (assets.Share pool) holders.Zero FIRST_LOCKED else added l (assets.Share pool) to n) (assets.Share pool) holders.Zero)
 shares_by l pool to before n true e =
     let mid : Ledger = added l (assets.Share pool) to n in
-    let last = added_added mid (assets.Share pool) holders.Zero first_locked in (
-      grown_then pool n first_locked l mid _ (added_grown pool to n l mid (added_added l (assets.Share pool) to n)) (added_grown pool holders.Zero first_locked mid _ last),
+    let last = added_added mid (assets.Share pool) holders.Zero FIRST_LOCKED in (
+      grown_then pool n FIRST_LOCKED l mid _ (added_grown pool to n l mid (added_added l (assets.Share pool) to n)) (added_grown pool holders.Zero FIRST_LOCKED mid _ last),
       λ none. omega (arith, last.here),
     )
 shares_by l pool to before n false e =
@@ -173,8 +174,8 @@ shares_product l pool pair s pos cover0 cover1 = by_test (s == 0) refl
     zero_positive k e p = let none = eqb-true k 0 e in omega arith
 
     by_test : (b : Bool) → (s == 0) ≡ b
-        → (pair.r0 * pair.r1) * ((s + ((if b then root_of (a0 * a1) - first_locked else later_shares_of a0 a1 s pair.r0 pair.r1) + (if b then first_locked else 0)))
-        * (s + ((if b then root_of (a0 * a1) - first_locked else later_shares_of a0 a1 s pair.r0 pair.r1) + (if b then first_locked else 0)))) ≤ (held0 l pool * held1 l pool) * (s * s)
+        → (pair.r0 * pair.r1) * ((s + ((if b then root_of (a0 * a1) - FIRST_LOCKED else later_shares_of a0 a1 s pair.r0 pair.r1) + (if b then FIRST_LOCKED else 0)))
+        * (s + ((if b then root_of (a0 * a1) - FIRST_LOCKED else later_shares_of a0 a1 s pair.r0 pair.r1) + (if b then FIRST_LOCKED else 0)))) ≤ (held0 l pool * held1 l pool) * (s * s)
     by_test true e = absurd (zero_positive s e pos)
     by_test false e =
         let whole : s + (later_shares_of a0 a1 s pair.r0 pair.r1 + 0) ≡ s + later_shares_of a0 a1 s pair.r0 pair.r1 = omega arith in
@@ -240,7 +241,7 @@ module _ (l : Ledger) (pool : List ℕ) (to : Holder) (made : Made MintReceipt) 
 
     kept : IsKept m.mid pool
     kept = elim before.kept [
-      | inl none ↦ inr (subst (λ (k : Ledger). first_locked ≤ balance k (assets.Share pool) holders.Zero) (sym m.mid_is) (shared.first (omega (arith, no_fee_due l pool m.was none))))
+      | inl none ↦ inr (subst (λ (k : Ledger). FIRST_LOCKED ≤ balance k (assets.Share pool) holders.Zero) (sym m.mid_is) (shared.first (omega (arith, no_fee_due l pool m.was none))))
       | inr some ↦ inr (omega (arith, grown.grown (assets.Share pool) holders.Zero))
     ]
 

@@ -11,7 +11,8 @@ use Rattle.amm_model.specs.declared.fault.Refusal.{Refusal}
 use Rattle.amm_model.specs.declared.fault.Refusal.TheVariants as code
 use Rattle.amm_model.specs.Outcome.{◌>>=◌, refuse_if}
 use Rattle.amm_model.specs.Ledger.{Ledger, Made, Outcome, Pairs, balance, done, moved, pair_of, set_pair, with_pair, transfer}
-use Rattle.amm_model.specs.Pools.{asset0, asset1, held0, held1, reserve_limit}
+use Rattle.amm_model.specs.Pools.{asset0, asset1, held0, held1}
+use Rattle.amm_model.specs.declared.limits.TheConstants.{RESERVE_LIMIT}
 use Rattle.amm_model.specs.Operations.{free_pair, renewed, updated_to, locked, unlocked, is_token_of, lend, came_in, keeps_product, give_back, swap}
 use Rattle.amm_model.proofs.Guards.{given, not_refused, same_answer}
 use Rattle.amm_model.proofs.Names.{some_there, pair_of-set_here}
@@ -77,7 +78,7 @@ module _ (ledger : Ledger) (pool : List ℕ) (out0 out1 : ℕ) (to : Holder) whe
       let paid : SwapReceipt = came_in sent pool pair out0 out1 in
       let now : PairRecord = unlocked (renewed pair sent.time (held0 sent pool) (held1 sent pool)) in
       give_back_is (record sent { pairs = during pair }) pool out0 out1 (locked pair) (pair_of-set_here ledger.pairs pool (locked pair) (some_there (pair_of ledger.pairs pool) pair there))
-      ∙ (ends_same (paid.in0 == 0 && paid.in1 == 0) (not (keeps_product sent pool pair paid)) (nat_lt reserve_limit (held0 sent pool)) (nat_lt reserve_limit (held1 sent pool))
+      ∙ (ends_same (paid.in0 == 0 && paid.in1 == 0) (not (keeps_product sent pool pair paid)) (nat_lt RESERVE_LIMIT (held0 sent pool)) (nat_lt RESERVE_LIMIT (held1 sent pool))
       (renewed (locked pair) sent.time (held0 sent pool) (held1 sent pool)) (renewed pair sent.time (held0 sent pool) (held1 sent pool))
       (λ new. Ok (record { ledger = record sent { pairs = set_pair (set_pair ledger.pairs pool (locked pair)) pool (unlocked new) }; answer = paid }))
       (λ new. Ok (record { ledger = with_pair sent pool (unlocked new); answer = paid }))

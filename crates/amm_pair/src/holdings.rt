@@ -2,7 +2,8 @@
 ghost use Rattle.std.specs.Prelude.{◌≡◌, ◌≢◌, ◌≤◌};
 ghost use Rattle.amm_names.specs.declared.holder.Holder.TheVariants as holders;
 ghost use Rattle.amm_names.specs.Pools.{pool_token0, pool_token1};
-ghost use Rattle.amm_model.specs.Ledger.{total, total_limit, transfer};
+ghost use Rattle.amm_model.specs.Ledger.{total, transfer};
+ghost use Rattle.amm_model.specs.declared.limits.TheConstants.{AMOUNT_LIMIT};
 ghost use Rattle.amm_model.specs.Pools.{asset0, asset1, held0, held1, supply};
 ghost use Rattle.amm_model.specs.Operations.{own_shares};
 ghost use Rattle.amm_state.specs.Tx.{Meets};
@@ -14,7 +15,7 @@ use std::alloc::Global;
 /// What the pool has of its first token, at most 2^52-1.
 pub(crate) fn held0(book: &Book, pool: &PoolName) -> u64
     ensures amount { result ≡ held0 book.now.ledger pool.now }
-    ensures limit { result ≤ total_limit }
+    ensures limit { result ≤ AMOUNT_LIMIT }
 {
     book.balance(&Asset::Token(*pool.token0()), &Holder::Pool(*pool))
 }
@@ -22,7 +23,7 @@ pub(crate) fn held0(book: &Book, pool: &PoolName) -> u64
 /// What the pool has of its second token, at most 2^52-1.
 pub(crate) fn held1(book: &Book, pool: &PoolName) -> u64
     ensures amount { result ≡ held1 book.now.ledger pool.now }
-    ensures limit { result ≤ total_limit }
+    ensures limit { result ≤ AMOUNT_LIMIT }
 {
     book.balance(&Asset::Token(*pool.token1()), &Holder::Pool(*pool))
 }
@@ -30,7 +31,7 @@ pub(crate) fn held1(book: &Book, pool: &PoolName) -> u64
 /// How many shares of the pool there are.
 pub(crate) fn supply(book: &Book, pool: &PoolName) -> u64
     ensures sum { result ≡ supply book.now.ledger pool.now }
-    ensures limit { result ≤ total_limit }
+    ensures limit { result ≤ AMOUNT_LIMIT }
 {
     book.total(&Asset::Share(*pool))
 }

@@ -1,16 +1,15 @@
 //! Liquidity: shares for what was brought to a pool, and what they stand for when they end.
 ghost use Rattle.std.specs.Prelude.{◌≡◌, ◌≢◌, ◌+◌, ◌*◌, ◌≤◌, ◌==◌, if◌then◌else◌, OnOk, IfOk};
-ghost use Rattle.amm_model.specs.Pools.{supply, first_locked, reserve_limit};
-ghost use Rattle.amm_model.specs.Ledger.{total_limit};
+ghost use Rattle.amm_model.specs.Pools.{supply};
+ghost use Rattle.amm_model.specs.declared.limits.TheConstants.{FIRST_LOCKED, RESERVE_LIMIT, AMOUNT_LIMIT};
 ghost use Rattle.amm_model.specs.Operations.{mint, burn, parts_of, pay_out, shares_for, PerShareKept};
 ghost use Rattle.amm_model.specs.Sound.{IsSound, IsCovered};
 ghost use Rattle.amm_state.specs.Tx.{Meets};
 
 use crate::holdings::{held0, held1, own_shares, send0, send1, supply};
-use crate::protocol::{
-    FIRST_LOCKED, after_fee, fee_due, give_shares, is_nobody, take_fee, with_product,
-};
+use crate::protocol::{after_fee, fee_due, give_shares, is_nobody, take_fee, with_product};
 use crate::records::{free_pair, updated};
+use amm_model::limits::FIRST_LOCKED;
 use amm_model::{Asset, BurnReceipt, Fault, Holder, MintReceipt, PairRecord, PoolName, Refusal};
 use amm_pool::{burn_amount, first_root, later_shares};
 use amm_state::{Book, Mark, Tx};
@@ -65,18 +64,18 @@ fn mint_at(alloc: Global, tx: &mut Tx, pool: &PoolName, to: &Holder) -> Result<M
 // The shares for what was brought, of a supply, for which there is room.
 fn shares_for(book: &Book, pool: &PoolName, pair: &PairRecord, before: u64) -> u64
     requires sound { IsSound book.now.ledger }
-    requires reserves { (pair.now.r0 ≤ reserve_limit) × (pair.now.r1 ≤ reserve_limit) }
+    requires reserves { (pair.now.r0 ≤ RESERVE_LIMIT) × (pair.now.r1 ≤ RESERVE_LIMIT) }
     requires covered { IsCovered book.now.ledger pool.now pair.now }
     requires backed { before * before ≤ pair.now.r0 * pair.now.r1 }
     ensures value { result ≡ shares_for book.now.ledger pool.now pair.now before }
-    ensures room { result ≢ 0 → before + (result + (if before == 0 then first_locked else 0)) ≤ total_limit }
+    ensures room { result ≢ 0 → before + (result + (if before == 0 then FIRST_LOCKED else 0)) ≤ AMOUNT_LIMIT }
 {
     shares_by_formula(book, pool, pair, before)
 }
 
 #[tactic(auto, unfolding(amm_model::specs::Operations::shares_for))]
 fn shares_by_formula(book: &Book, pool: &PoolName, pair: &PairRecord, before: u64) -> u64
-    requires reserves { (pair.now.r0 ≤ reserve_limit) × (pair.now.r1 ≤ reserve_limit) }
+    requires reserves { (pair.now.r0 ≤ RESERVE_LIMIT) × (pair.now.r1 ≤ RESERVE_LIMIT) }
     requires backed { before * before ≤ pair.now.r0 * pair.now.r1 }
     ensures { result ≡ shares_for book.now.ledger pool.now pair.now before }
 {
@@ -142,7 +141,7 @@ fn burn_at(alloc: Global, tx: &mut Tx, pool: &PoolName, to: &Holder) -> Result<B
 #[tactic(auto, unfolding(amm_model::specs::Operations::parts_of))]
 fn parts_of(book: &Book, pool: &PoolName, before: u64, fee: u64) -> BurnReceipt
     requires supply { (supply book.now.ledger pool.now ≤ before) × (1 ≤ before) }
-    requires small { before ≤ reserve_limit }
+    requires small { before ≤ RESERVE_LIMIT }
     ensures { result ≡ parts_of book.now.ledger pool.now before fee }
 {
     let own = own_shares(book, pool);

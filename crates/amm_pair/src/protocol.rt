@@ -1,20 +1,19 @@
 //! Shares of a pool: those that a mint gives, and those that the protocol gets before.
 ghost use Rattle.std.specs.Prelude.{◌≡◌, ◌+◌, ◌*◌, ◌≤◌, ◌<◌, ◌==◌, if◌then◌else◌, OnOk};
 ghost use Rattle.amm_names.specs.declared.holder.Asset.TheVariants as assets;
-ghost use Rattle.amm_model.specs.Ledger.{done, added, total_limit};
-ghost use Rattle.amm_model.specs.Pools.{supply, reserve_limit, first_locked};
+ghost use Rattle.amm_model.specs.Ledger.{done, added};
+ghost use Rattle.amm_model.specs.declared.limits.TheConstants.{AMOUNT_LIMIT, RESERVE_LIMIT, FIRST_LOCKED};
+ghost use Rattle.amm_model.specs.Pools.{supply};
 ghost use Rattle.amm_model.specs.Operations.{is_nobody, fee_due, with_fee, with_shares, after_fee, with_product};
 ghost use Rattle.amm_model.specs.Formulas.{IsBacked};
 ghost use Rattle.amm_state.specs.Tx.{Meets};
 
 use crate::holdings::supply;
+use amm_model::limits::FIRST_LOCKED;
 use amm_model::{Asset, Fault, Holder, PairRecord, PoolName};
 use amm_pool::fee_shares;
 use amm_state::{Book, Mark, Tx};
 use std::alloc::Global;
-
-/// The first shares that nobody can take out again, since the zero holder gets them.
-pub(crate) const FIRST_LOCKED: u64 = 1000;
 
 /// Whether the fee's receiver is nobody, so that no fee is taken.
 pub(crate) fn is_nobody(holder: &Holder) -> bool
@@ -26,11 +25,11 @@ pub(crate) fn is_nobody(holder: &Holder) -> bool
 /// The shares that the protocol gets before a mint or a burn.
 #[tactic(auto, unfolding(amm_model::specs::Operations::fee_due))]
 pub(crate) fn fee_due(book: &Book, pool: &PoolName, pair: &PairRecord) -> u64
-    requires reserves { (pair.now.r0 ≤ reserve_limit) × (pair.now.r1 ≤ reserve_limit) }
+    requires reserves { (pair.now.r0 ≤ RESERVE_LIMIT) × (pair.now.r1 ≤ RESERVE_LIMIT) }
     requires backed { IsBacked (supply book.now.ledger pool.now) pair.now.r0 pair.now.r1 pair.now.k_last }
     ensures value { result ≡ fee_due book.now.ledger pool.now pair.now }
     ensures within { (supply book.now.ledger pool.now + result) * (supply book.now.ledger pool.now + result) ≤ pair.now.r0 * pair.now.r1 }
-    ensures small { supply book.now.ledger pool.now + result ≤ reserve_limit }
+    ensures small { supply book.now.ledger pool.now + result ≤ RESERVE_LIMIT }
 {
     if is_nobody(book.fee_to()) {
         return 0;
@@ -51,7 +50,7 @@ pub(crate) fn after_fee(nobody: bool, pair: &PairRecord) -> PairRecord
 
 /// The record at the end of a mint or a burn.
 pub(crate) fn with_product(nobody: bool, pair: &PairRecord) -> PairRecord
-    requires { (pair.now.r0 ≤ reserve_limit) × (pair.now.r1 ≤ reserve_limit) }
+    requires { (pair.now.r0 ≤ RESERVE_LIMIT) × (pair.now.r1 ≤ RESERVE_LIMIT) }
     ensures { result ≡ with_product nobody pair.now }
 {
     if nobody {
@@ -66,7 +65,7 @@ pub(crate) fn with_product(nobody: bool, pair: &PairRecord) -> PairRecord
 // Adds shares that the limit has room for.
 fn add_shares(alloc: Global, tx: &mut Tx, pool: &PoolName, to: &Holder, n: u64) -> Result<(), Fault>
     requires clean { tx.old.mark ≡ Mark.Clean }
-    requires room { supply tx.old.present pool.now + n ≤ total_limit }
+    requires room { supply tx.old.present pool.now + n ≤ AMOUNT_LIMIT }
     ensures meets { Meets tx.old tx.new result (done (added tx.old.present (assets.Share pool.now) to.now n)) }
     ensures whole { OnOk result (supply tx.new.present pool.now ≡ supply tx.old.present pool.now + n) }
     ensures pairs { OnOk result (tx.new.present.pairs ≡ tx.old.present.pairs) }
@@ -78,7 +77,7 @@ fn add_shares(alloc: Global, tx: &mut Tx, pool: &PoolName, to: &Holder, n: u64) 
 #[tactic(auto, unfolding(amm_model::specs::Operations::with_fee))]
 pub(crate) fn take_fee(alloc: Global, tx: &mut Tx, pool: &PoolName, fee: u64) -> Result<(), Fault>
     requires clean { tx.old.mark ≡ Mark.Clean }
-    requires room { supply tx.old.present pool.now + fee ≤ total_limit }
+    requires room { supply tx.old.present pool.now + fee ≤ AMOUNT_LIMIT }
     ensures meets { Meets tx.old tx.new result (done (with_fee tx.old.present pool.now fee)) }
     ensures whole { OnOk result (supply tx.new.present pool.now ≡ supply tx.old.present pool.now + fee) }
     ensures pairs { OnOk result (tx.new.present.pairs ≡ tx.old.present.pairs) }
@@ -101,7 +100,7 @@ pub(crate) fn give_shares(
     n: u64,
 ) -> Result<(), Fault>
     requires clean { tx.old.mark ≡ Mark.Clean }
-    requires room { supply tx.old.present pool.now + n + (if before == 0 then first_locked else 0) ≤ total_limit }
+    requires room { supply tx.old.present pool.now + n + (if before == 0 then FIRST_LOCKED else 0) ≤ AMOUNT_LIMIT }
     ensures meets { Meets tx.old tx.new result (done (with_shares tx.old.present pool.now to.now before n)) }
     ensures pairs { OnOk result (tx.new.present.pairs ≡ tx.old.present.pairs) }
 {

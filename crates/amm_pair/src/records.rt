@@ -2,15 +2,15 @@
 ghost use Rattle.std.specs.Prelude.{◌≡◌, ◌≤◌, Some, IfOk};
 ghost use Rattle.amm_model.specs.Ledger.{pair_of};
 ghost use Rattle.amm_model.specs.Operations.{free_pair, updated_to};
-ghost use Rattle.amm_model.specs.Pools.{supply, reserve_limit};
+ghost use Rattle.amm_model.specs.Pools.{supply};
+ghost use Rattle.amm_model.specs.declared.limits.TheConstants.{RESERVE_LIMIT};
 ghost use Rattle.amm_model.specs.Sound.{IsSound, IsSmall, IsCovered};
 ghost use Rattle.amm_model.specs.Formulas.{IsBacked};
 
+use amm_model::limits::RESERVE_LIMIT;
 use amm_model::{PairRecord, PoolName, Refusal};
 use amm_pool::accumulate;
 use amm_state::Book;
-
-const RESERVE_LIMIT: u64 = 281474976710655;
 
 /// The pair of the pool, if it is there and not locked.
 pub(crate) fn free_pair(book: &Book, pool: &PoolName) -> Result<PairRecord, Refusal>
@@ -36,7 +36,7 @@ pub(crate) fn free_pair(book: &Book, pool: &PoolName) -> Result<PairRecord, Refu
 #[tactic(auto, unfolding(amm_model::specs::Operations::updated_to))]
 pub(crate) fn updated(pair: &PairRecord, time: u64, b0: u64, b1: u64) -> Result<PairRecord, Refusal>
     ensures value { result ≡ updated_to pair.now time b0 b1 }
-    ensures reserves { IfOk result (λ new. (new.r0 ≤ reserve_limit) × (new.r1 ≤ reserve_limit)) }
+    ensures reserves { IfOk result (λ new. (new.r0 ≤ RESERVE_LIMIT) × (new.r1 ≤ RESERVE_LIMIT)) }
 {
     if b0 > RESERVE_LIMIT || b1 > RESERVE_LIMIT {
         return Err(Refusal::Overflow);

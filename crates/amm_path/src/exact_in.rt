@@ -1,7 +1,7 @@
 //! An exact input, swapped along a path.
 ghost use Rattle.std.specs.Prelude.{◌≡◌, ◌≤◌, OnOk};
 ghost use Rattle.amm_model.specs.Fits.{IsPath};
-ghost use Rattle.amm_model.specs.Ledger.{total_limit};
+ghost use Rattle.amm_model.specs.declared.limits.TheConstants.{AMOUNT_LIMIT};
 ghost use Rattle.amm_model.specs.Router.{last_of, exact_in};
 ghost use Rattle.amm_model.specs.Sound.{IsSound};
 ghost use Rattle.amm_state.specs.Tx.{Meets};
@@ -32,7 +32,7 @@ pub fn swap_exact_in(
     requires clean { tx.old.mark ≡ Mark.Clean }
     requires sound { IsSound tx.old.present }
     requires path { IsPath path.now }
-    requires amount { x ≤ total_limit }
+    requires amount { x ≤ AMOUNT_LIMIT }
     ensures meets { Meets tx.old tx.new result (exact_in tx.old.present actor.now path.now x min to.now deadline) }
     ensures sound { OnOk result (IsSound tx.new.present) }
 {

@@ -1,7 +1,7 @@
 //! An exact output, swapped along a path.
 ghost use Rattle.std.specs.Prelude.{◌≡◌, ◌≤◌, OnOk};
 ghost use Rattle.amm_model.specs.Fits.{IsPath};
-ghost use Rattle.amm_model.specs.Ledger.{total_limit};
+ghost use Rattle.amm_model.specs.declared.limits.TheConstants.{AMOUNT_LIMIT};
 ghost use Rattle.amm_model.specs.Router.{exact_out};
 ghost use Rattle.amm_model.specs.Sound.{IsSound};
 ghost use Rattle.amm_state.specs.Tx.{Meets};
@@ -32,7 +32,7 @@ pub fn swap_exact_out(
     requires clean { tx.old.mark ≡ Mark.Clean }
     requires sound { IsSound tx.old.present }
     requires path { IsPath path.now }
-    requires amount { y ≤ total_limit }
+    requires amount { y ≤ AMOUNT_LIMIT }
     ensures meets { Meets tx.old tx.new result (exact_out tx.old.present actor.now path.now y max to.now deadline) }
     ensures sound { OnOk result (IsSound tx.new.present) }
 {

@@ -2,8 +2,7 @@
 ghost use Rattle.std.specs.Prelude.{◌≡◌, ◌≤◌, ◌<◌, OnOk, IfOk};
 ghost use Rattle.amm_model.specs.Swap.{IsFee, quote_of};
 ghost use Rattle.amm_model.specs.Fits.{FitsAdd, FitsRemove};
-ghost use Rattle.amm_model.specs.Ledger.{total_limit};
-ghost use Rattle.amm_model.specs.Pools.{reserve_limit};
+ghost use Rattle.amm_model.specs.declared.limits.TheConstants.{AMOUNT_LIMIT, RESERVE_LIMIT};
 ghost use Rattle.amm_model.specs.Router.{with_pool, match_a, match_b, matched, paid_in_order, add, remove};
 ghost use Rattle.amm_model.specs.Sound.{IsSound};
 ghost use Rattle.amm_state.specs.Tx.{Meets};
@@ -106,8 +105,8 @@ fn with_pool(
 // The amounts to add at these reserves.
 #[tactic(auto, unfolding(amm_model::specs::Router::matched))]
 fn matched(want: &AddWant, ra: u64, rb: u64) -> Result<Matched, Refusal>
-    requires desired { (want.now.a_desired ≤ total_limit) × (want.now.b_desired ≤ total_limit) }
-    requires reserves { (ra ≤ reserve_limit) × (rb ≤ reserve_limit) }
+    requires desired { (want.now.a_desired ≤ AMOUNT_LIMIT) × (want.now.b_desired ≤ AMOUNT_LIMIT) }
+    requires reserves { (ra ≤ RESERVE_LIMIT) × (rb ≤ RESERVE_LIMIT) }
     ensures { result ≡ matched want.now ra rb }
 {
     if ra == 0 && rb == 0 {
@@ -145,8 +144,8 @@ fn match_b(want: &AddWant, b: u64) -> Result<Matched, Refusal>
 
 // All that is desired of the second token, and what matches it of the first.
 fn match_a(want: &AddWant, ra: u64, rb: u64) -> Result<Matched, Refusal>
-    requires desired { (want.now.a_desired ≤ total_limit) × (want.now.b_desired ≤ total_limit) }
-    requires reserves { (1 ≤ ra) × (ra ≤ reserve_limit) × (1 ≤ rb) × (rb ≤ reserve_limit) }
+    requires desired { (want.now.a_desired ≤ AMOUNT_LIMIT) × (want.now.b_desired ≤ AMOUNT_LIMIT) }
+    requires reserves { (1 ≤ ra) × (ra ≤ RESERVE_LIMIT) × (1 ≤ rb) × (rb ≤ RESERVE_LIMIT) }
     requires less { want.now.b_desired < quote_of want.now.a_desired ra rb }
     ensures { result ≡ match_a want.now ra rb }
 {

@@ -4,19 +4,16 @@ ghost use Rattle.std.specs.List.{All, AllByRecursion};
 ghost use Rattle.amm_model.specs.Swap.{IsFee};
 ghost use Rattle.amm_model.specs.Outcome.{Gives};
 ghost use Rattle.amm_model.specs.Fits.{IsPath};
-ghost use Rattle.amm_model.specs.Ledger.{total_limit};
-ghost use Rattle.amm_model.specs.Pools.{reserve_limit};
+ghost use Rattle.amm_model.specs.declared.limits.TheConstants.{AMOUNT_LIMIT, RESERVE_LIMIT};
 ghost use Rattle.amm_model.specs.Router.{trade_out, trades_out, trade_in, plan_in, out_from_first, out_along, in_from_first, in_along, amounts_of};
 ghost use Rattle.amm_model.specs.Sound.{IsSound};
 
 use crate::sides::side_of;
+use amm_model::limits::AMOUNT_LIMIT;
 use amm_model::{AmountList, Fault, Memory, Refusal, RoutePath, TokenName, Trade};
 use amm_pool::{amount_in, amount_out};
 use amm_state::Book;
 use std::alloc::Global;
-
-// The first amount of a plan is at most this.
-const AMOUNT_LIMIT: u128 = 4503599627370495;
 
 /// What goes into the first pool of a path, and the trades that follow from it, in order.
 #[derive(Drop)]
@@ -30,7 +27,7 @@ pub(crate) struct Plan {
 pub(crate) fn out_along(alloc: Global, book: &Book, path: &RoutePath, x: u64) -> Result<Plan, Fault>
     requires sound { IsSound book.now.ledger }
     requires path { IsPath path.now }
-    requires input { x ≤ total_limit }
+    requires input { x ≤ AMOUNT_LIMIT }
     ensures { Gives (λ plan. record { input = plan.input; trades = plan.trades.items }) result (out_along book.now.ledger path.now x) }
 {
     let mut trades = out_from_first(alloc, book, path.tokens.as_slice(), path.fees.as_slice(), x)?;
@@ -47,7 +44,7 @@ fn out_from_first(
 ) -> Result<Vec<Trade>, Fault>
     requires sound { IsSound book.now.ledger }
     requires fees { All IsFee fees.now }
-    requires input { x ≤ total_limit }
+    requires input { x ≤ AMOUNT_LIMIT }
     ensures { Gives (λ trades. reverse trades.items) result (out_from_first book.now.ledger tokens.now fees.now x) }
 {
     match tokens.split_first() {
@@ -64,7 +61,7 @@ pub(crate) fn in_along(alloc: Global, book: &Book, path: &RoutePath, y: u64) -> 
     ensures gives { Gives (λ plan. record { input = plan.input; trades = plan.trades.items }) result (in_along book.now.ledger path.now y) }
 {
     let asked = in_from_first(alloc, book, path.tokens.as_slice(), path.fees.as_slice(), y)?;
-    if asked.input > AMOUNT_LIMIT {
+    if asked.input > AMOUNT_LIMIT as u128 {
         return Err(Fault::Refused(Refusal::AmountLimit));
     }
     let mut trades = asked.last_first;
@@ -116,9 +113,9 @@ fn trade_out(
 ) -> Result<Trade, Fault>
     requires sound { IsSound book.now.ledger }
     requires fee { IsFee fee }
-    requires input { x ≤ total_limit }
+    requires input { x ≤ AMOUNT_LIMIT }
     ensures gives { Gives (λ trade. trade) result (trade_out book.now.ledger from.now to.now fee x) }
-    ensures small { IfOk result (λ trade. trade.output ≤ reserve_limit) }
+    ensures small { IfOk result (λ trade. trade.output ≤ RESERVE_LIMIT) }
 {
     let side = side_of(alloc, book, from, to, fee)?;
     if x == 0 {
@@ -146,7 +143,7 @@ fn trades_out(
 ) -> Result<Vec<Trade>, Fault>
     requires sound { IsSound book.now.ledger }
     requires fees { AllByRecursion IsFee fees.now }
-    requires input { x ≤ total_limit }
+    requires input { x ≤ AMOUNT_LIMIT }
     ensures { Gives (λ trades. reverse trades.items) result (trades_out book.now.ledger from.now tokens.now fees.now x) }
 {
     let Some((to, tokens)) = tokens.split_first() else {

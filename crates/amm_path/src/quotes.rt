@@ -2,7 +2,7 @@
 ghost use Rattle.std.specs.Prelude.{◌≡◌, ◌≤◌};
 ghost use Rattle.amm_model.specs.Outcome.{Gives};
 ghost use Rattle.amm_model.specs.Fits.{IsPath};
-ghost use Rattle.amm_model.specs.Ledger.{total_limit};
+ghost use Rattle.amm_model.specs.declared.limits.TheConstants.{AMOUNT_LIMIT};
 ghost use Rattle.amm_model.specs.Router.{amounts_out, amounts_in};
 ghost use Rattle.amm_model.specs.Sound.{IsSound};
 
@@ -25,7 +25,7 @@ pub fn amounts_out(
 ) -> Result<AmountList, Fault>
     requires sound { IsSound book.now.ledger }
     requires path { IsPath path.now }
-    requires amount { x ≤ total_limit }
+    requires amount { x ≤ AMOUNT_LIMIT }
     ensures { Gives (λ amounts. amounts) result (amounts_out book.now.ledger path.now x) }
 {
     let plan = out_along(alloc, book, path, x)?;
@@ -42,7 +42,7 @@ pub fn amounts_out(
 pub fn amounts_in(alloc: Global, book: &Book, path: &RoutePath, y: u64) -> Result<AmountList, Fault>
     requires sound { IsSound book.now.ledger }
     requires path { IsPath path.now }
-    requires amount { y ≤ total_limit }
+    requires amount { y ≤ AMOUNT_LIMIT }
     ensures { Gives (λ amounts. amounts) result (amounts_in book.now.ledger path.now y) }
 {
     let plan = in_along(alloc, book, path, y)?;

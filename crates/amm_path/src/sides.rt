@@ -2,7 +2,7 @@
 ghost use Rattle.std.specs.Prelude.{◌≡◌, ◌≤◌, IfOk};
 ghost use Rattle.amm_model.specs.Swap.{IsFee};
 ghost use Rattle.amm_model.specs.Outcome.{Gives};
-ghost use Rattle.amm_model.specs.Pools.{reserve_limit};
+ghost use Rattle.amm_model.specs.declared.limits.TheConstants.{RESERVE_LIMIT};
 ghost use Rattle.amm_model.specs.Router.{side_of, seen_from};
 ghost use Rattle.amm_model.specs.Sound.{IsSound};
 
@@ -23,7 +23,7 @@ pub(crate) fn side_of(
     requires sound { IsSound book.now.ledger }
     requires fee { IsFee fee }
     ensures gives { Gives (λ side. side) result (side_of book.now.ledger from.now to.now fee) }
-    ensures small { IfOk result (λ side. (side.rin ≤ reserve_limit) × (side.rout ≤ reserve_limit)) }
+    ensures small { IfOk result (λ side. (side.rin ≤ RESERVE_LIMIT) × (side.rout ≤ RESERVE_LIMIT)) }
 {
     let Some(pool) = PoolName::of(alloc, from, to, fee)? else {
         return Err(Fault::Refused(Refusal::Identical));
@@ -36,9 +36,9 @@ pub(crate) fn side_of(
 
 // The pair, seen from the token that goes in.
 fn seen_from(pool: PoolName, zero_in: bool, pair: &PairRecord) -> Side
-    requires { (pair.now.r0 ≤ reserve_limit) × (pair.now.r1 ≤ reserve_limit) }
+    requires { (pair.now.r0 ≤ RESERVE_LIMIT) × (pair.now.r1 ≤ RESERVE_LIMIT) }
     ensures value { result ≡ seen_from pool zero_in pair.now }
-    ensures small { (result.rin ≤ reserve_limit) × (result.rout ≤ reserve_limit) }
+    ensures small { (result.rin ≤ RESERVE_LIMIT) × (result.rout ≤ RESERVE_LIMIT) }
 {
     let (rin, rout) = if zero_in {
         (pair.r0, pair.r1)

@@ -2,7 +2,7 @@
 ghost use Rattle.std.specs.Prelude.{◌≡◌, ◌≤◌, OnOk, IfOk};
 ghost use Rattle.amm_model.specs.CommandView.{move_of_step, moves_of_steps};
 ghost use Rattle.amm_model.specs.Fits.{FitsMove, FitMoves};
-ghost use Rattle.amm_model.specs.Ledger.{total_limit};
+ghost use Rattle.amm_model.specs.declared.limits.TheConstants.{AMOUNT_LIMIT};
 ghost use Rattle.amm_model.specs.Sound.{IsSound};
 ghost use Rattle.amm_state.specs.declared.mark.Mark.{Mark};
 
@@ -67,7 +67,7 @@ fn pay(
 ) -> Result<Answer, Fault>
     requires clean { tx.old.mark ≡ Mark.Clean }
     requires sound { IsSound tx.old.present }
-    requires amount { n ≤ total_limit }
+    requires amount { n ≤ AMOUNT_LIMIT }
     ensures clean { OnOk result (tx.new.mark ≡ Mark.Clean) }
     ensures sound { OnOk result (IsSound tx.new.present) }
 {
@@ -125,7 +125,7 @@ fn open_pool(alloc: Global, tx: &mut Tx, names: &Names) -> Result<(), Fault>
 
 // A step that pays a loan back, with n units of ETH.
 fn pays_back(names: &Names, n: u64) -> Step
-    requires amount { n ≤ total_limit }
+    requires amount { n ≤ AMOUNT_LIMIT }
     ensures { FitsMove (move_of_step result) }
 {
     Step::Transfer {
@@ -162,7 +162,7 @@ fn two_steps(alloc: Global, first: Step, second: Step) -> Result<Vec<Step>, Faul
 fn lend(alloc: Global, tx: &mut Tx, names: &Names, syncs: bool, n: u64) -> Result<Answer, Fault>
     requires clean { tx.old.mark ≡ Mark.Clean }
     requires sound { IsSound tx.old.present }
-    requires amount { n ≤ total_limit }
+    requires amount { n ≤ AMOUNT_LIMIT }
 {
     let pool = names.pool;
     let _ = pool.as_bytes();
@@ -178,7 +178,7 @@ fn lend(alloc: Global, tx: &mut Tx, names: &Names, syncs: bool, n: u64) -> Resul
 
 // What is answered to the loan on a new pool.
 fn answer(alloc: Global, names: &Names, syncs: bool, n: u64) -> Result<Answer, Fault>
-    requires amount { n ≤ total_limit }
+    requires amount { n ≤ AMOUNT_LIMIT }
 {
     let Ok(state) = State::new(alloc) else {
         return Err(Fault::Memory);

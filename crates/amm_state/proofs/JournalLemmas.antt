@@ -7,7 +7,8 @@ use Rattle.std.specs.FinSet as set
 use Rattle.amm_names.specs.declared.holder.Holder.{Holder}
 use Rattle.amm_names.specs.declared.holder.Asset.{Asset}
 use Rattle.amm_names.specs.Order.{same_asset, same_holder}
-use Rattle.amm_model.specs.Ledger.{Ledger, Pairs, pair_of, set_pair, balance, total, total_limit, set_balance}
+use Rattle.amm_model.specs.Ledger.{Ledger, Pairs, pair_of, set_pair, balance, total, set_balance}
+use Rattle.amm_model.specs.declared.limits.TheConstants.{AMOUNT_LIMIT}
 use Rattle.amm_names.proofs.OrderLemmas.{asset_total, holder_total}
 use Rattle.amm_model.proofs.Names.{same_asset_is}
 use Rattle.amm_model.proofs.LedgerLemmas.{total-set_balance, balance_within_total, balance-set_here, set_balance-back}
@@ -66,7 +67,7 @@ module _ (changes noted : List Undo) (book new : BookView) (a : Asset) (h : Hold
   pub balance_leads_back : undo_all noted new.ledger ≡ undo_all changes book.ledger
   balance_leads_back = rw (all, next) (ap (undo_all changes) back)
 
-  pub balance_changed : total book.ledger a ≤ total_limit → IsRevertible noted new
+  pub balance_changed : total book.ledger a ≤ AMOUNT_LIMIT → IsRevertible noted new
   balance_changed limit =
       let l : Ledger = book.ledger in
       let sums = total-set_balance l a h n in
@@ -82,7 +83,7 @@ module _ (changes noted : List Undo) (book new : BookView) (a : Asset) (h : Hold
 -- units were moved: two more balances were changed
 module _ (changes noted : List Undo) (book new : BookView) (a : Asset) (f t : Holder) (n sender receiver : ℕ) (is : noted ≡ Balance a t receiver ∷ Balance a f sender ∷ changes)
     (had : sender ≡ balance book.ledger a f) (got : receiver ≡ balance (set_balance book.ledger a f (sender - n)) a t)
-    (next : new ≡ with_balance (with_balance book a f (sender - n)) a t (receiver + n)) (r : IsRevertible changes book) (limit : total book.ledger a ≤ total_limit) where
+    (next : new ≡ with_balance (with_balance book a f (sender - n)) a t (receiver + n)) (r : IsRevertible changes book) (limit : total book.ledger a ≤ AMOUNT_LIMIT) where
   abbrev less : BookView
   less = with_balance book a f (sender - n)
 

@@ -1,6 +1,7 @@
 -- What a journal says of the ledger that it leads back to.
 use Rattle.std.specs.Prelude.{ℕ, ◌+◌, ◌-◌, ◌≤◌, List, [], ◌∷◌, take, length, IsTrue, refl}
-use Rattle.amm_model.specs.Ledger.{Ledger, holdings_of, balance, total, total_limit, set_balance, set_pair, with_fee_to, with_setter}
+use Rattle.amm_model.specs.Ledger.{Ledger, holdings_of, balance, total, set_balance, set_pair, with_fee_to, with_setter}
+use Rattle.amm_model.specs.declared.limits.TheConstants.{AMOUNT_LIMIT}
 use Rattle.amm_model.proofs.LedgerLemmas.{IsTidy, IsTidyByAsset}
 use Rattle.amm_state.specs.declared.journal.Undo.{Undo}
 use Rattle.amm_state.specs.declared.journal.Undo.TheVariants.{Balance, Token, NewPair, Pair, FeeTo, Setter, Time}
@@ -40,7 +41,7 @@ undo_all (change ∷ changes) ledger = undo_all changes (undo change ledger)
 -- no total passes its limit on the way back
 abbrev pub StaysWithin : List Undo → Ledger → Type 0
 StaysWithin [] ledger = Unit {0}
-StaysWithin (Balance asset holder n ∷ changes) ledger = (total ledger asset - balance ledger asset holder + n ≤ total_limit) × StaysWithin changes (set_balance ledger asset holder n)
+StaysWithin (Balance asset holder n ∷ changes) ledger = (total ledger asset - balance ledger asset holder + n ≤ AMOUNT_LIMIT) × StaysWithin changes (set_balance ledger asset holder n)
 StaysWithin (change ∷ changes) ledger = StaysWithin changes (undo change ledger)
 
 -- each account that is to be restored has a row

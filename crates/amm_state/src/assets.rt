@@ -2,7 +2,8 @@
 ghost use Rattle.std.specs.Prelude.{◌≡◌, ◌+◌, ◌-◌, ◌<◌, ◌≤◌, OnOk, OnErr, IfOk, IfErr, IsTrue};
 ghost use Rattle.std.specs.FinMap as map;
 ghost use Rattle.amm_model.specs.declared.fault.Refusal.TheVariants as refusal;
-ghost use Rattle.amm_model.specs.Ledger.{amount, sum_held, holdings_of, total_limit};
+ghost use Rattle.amm_model.specs.Ledger.{amount, sum_held, holdings_of};
+ghost use Rattle.amm_model.specs.declared.limits.TheConstants.{AMOUNT_LIMIT};
 ghost use Rattle.amm_state.specs.Assets.{with_amount, has_row};
 ghost use Rattle.amm_state.specs.Rows.{Because};
 
@@ -44,7 +45,7 @@ impl Assets {
     /// What the holder has of the asset.
     pub fn amount(&self, asset: &Asset, holder: &Holder) -> u64
         ensures amount { result ≡ amount (holdings_of self.now.holdings asset.now) holder.now }
-        ensures limit { result ≤ total_limit }
+        ensures limit { result ≤ AMOUNT_LIMIT }
     {
         match self.tables.get(asset) {
             Some(rows) => rows.amount(holder),
@@ -55,7 +56,7 @@ impl Assets {
     /// What all holders have of the asset.
     pub fn total(&self, asset: &Asset) -> u64
         ensures sum { result ≡ sum_held (holdings_of self.now.holdings asset.now) }
-        ensures limit { result ≤ total_limit }
+        ensures limit { result ≤ AMOUNT_LIMIT }
     {
         match self.tables.get(asset) {
             Some(rows) => rows.total(),
@@ -67,9 +68,9 @@ impl Assets {
     /// 2^52-1.
     pub fn issue(&mut self, alloc: Global, asset: &Asset, to: &Holder, n: u64) -> Result<u64, Fault>
         ensures before { IfOk result (λ before. before ≡ amount (holdings_of self.old.holdings asset.now) to.now) }
-        ensures limit { OnOk result (sum_held (holdings_of self.old.holdings asset.now) + n ≤ total_limit) }
+        ensures limit { OnOk result (sum_held (holdings_of self.old.holdings asset.now) + n ≤ AMOUNT_LIMIT) }
         ensures ok { IfOk result (λ before. self.new ≡ with_amount self.old asset.now to.now (before + n)) }
-        ensures fault { IfErr result (λ fault. Because fault refusal.TotalLimit (total_limit < sum_held (holdings_of self.old.holdings asset.now) + n)) }
+        ensures fault { IfErr result (λ fault. Because fault refusal.TotalLimit (AMOUNT_LIMIT < sum_held (holdings_of self.old.holdings asset.now) + n)) }
         ensures err { OnErr result (self.new ≡ self.old) }
     {
         if let Some(rows) = self.tables.get_mut(asset) {
@@ -86,7 +87,7 @@ impl Assets {
         requires { 0 < n }
         ensures before { IfOk result (λ before. before ≡ amount (holdings_of self.old.holdings asset.now) from.now) }
         ensures funds { IfOk result (λ before. n ≤ before) }
-        ensures limit { OnOk result (sum_held (holdings_of self.old.holdings asset.now) ≤ total_limit) }
+        ensures limit { OnOk result (sum_held (holdings_of self.old.holdings asset.now) ≤ AMOUNT_LIMIT) }
         ensures ok { IfOk result (λ before. self.new ≡ with_amount self.old asset.now from.now (before - n)) }
         ensures fault { IfErr result (λ fault. Because fault refusal.Funds (amount (holdings_of self.old.holdings asset.now) from.now < n)) }
         ensures err { OnErr result (self.new ≡ self.old) }
@@ -109,7 +110,7 @@ impl Assets {
         ensures sender { IfOk result (λ before. before.sender ≡ amount (holdings_of self.old.holdings asset.now) from.now) }
         ensures funds { IfOk result (λ before. n ≤ before.sender) }
         ensures receiver { IfOk result (λ before. before.receiver ≡ amount (holdings_of (with_amount self.old asset.now from.now (before.sender - n)).holdings asset.now) to.now) }
-        ensures limit { OnOk result (sum_held (holdings_of self.old.holdings asset.now) ≤ total_limit) }
+        ensures limit { OnOk result (sum_held (holdings_of self.old.holdings asset.now) ≤ AMOUNT_LIMIT) }
         ensures ok { IfOk result (λ before. self.new ≡ with_amount (with_amount self.old asset.now from.now (before.sender - n)) asset.now to.now (before.receiver + n)) }
         ensures fault { IfErr result (λ fault. Because fault refusal.Funds (amount (holdings_of self.old.holdings asset.now) from.now < n)) }
         ensures err { OnErr result (self.new ≡ self.old) }
@@ -123,7 +124,7 @@ impl Assets {
     /// Gives a holder that has a row this amount of the asset.
     pub fn restore(&mut self, asset: &Asset, holder: &Holder, n: u64)
         requires row { IsTrue (has_row self.old.rows asset.now holder.now) }
-        requires limit { sum_held (holdings_of self.old.holdings asset.now) - amount (holdings_of self.old.holdings asset.now) holder.now + n ≤ total_limit }
+        requires limit { sum_held (holdings_of self.old.holdings asset.now) - amount (holdings_of self.old.holdings asset.now) holder.now + n ≤ AMOUNT_LIMIT }
         ensures { self.new ≡ with_amount self.old asset.now holder.now n }
     {
         let Some(rows) = self.tables.get_mut(asset) else {

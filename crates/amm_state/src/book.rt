@@ -2,7 +2,8 @@
 ghost use Rattle.std.specs.Prelude.{◌≡◌, ◌+◌, ◌-◌, ◌<◌, ◌≤◌, ◌++◌, ◌∷◌, [], false, take, OnOk, OnErr, IfOk, IfErr, IsTrue, length, None, slice_get};
 ghost use Rattle.std.specs.FinMap as map;
 ghost use Rattle.amm_model.specs.declared.fault.Refusal.TheVariants as refusal;
-ghost use Rattle.amm_model.specs.Ledger.{balance, set_balance, total, total_limit, is_listed, opening_ledger, pair_of, set_pair, zero_pair, with_fee_to, with_setter};
+ghost use Rattle.amm_model.specs.Ledger.{balance, set_balance, total, is_listed, opening_ledger, pair_of, set_pair, zero_pair, with_fee_to, with_setter};
+ghost use Rattle.amm_model.specs.declared.limits.TheConstants.{AMOUNT_LIMIT};
 ghost use Rattle.amm_state.specs.Assets.{has_row};
 ghost use Rattle.amm_state.specs.Book.{with_balance, with_ledger, with_token, without_token, with_pairs, with_time};
 ghost use Rattle.amm_state.specs.Rows.{Because};
@@ -78,7 +79,7 @@ impl Book {
     pub fn balance(&self, asset: &Asset, holder: &Holder) -> u64
         ensures amount { result ≡ balance self.now.ledger asset.now holder.now }
         ensures within { result ≤ total self.now.ledger asset.now }
-        ensures limit { result ≤ total_limit }
+        ensures limit { result ≤ AMOUNT_LIMIT }
     {
         self.assets.amount(asset, holder)
     }
@@ -86,7 +87,7 @@ impl Book {
     /// What all holders have of the asset.
     pub fn total(&self, asset: &Asset) -> u64
         ensures sum { result ≡ total self.now.ledger asset.now }
-        ensures limit { result ≤ total_limit }
+        ensures limit { result ≤ AMOUNT_LIMIT }
     {
         self.assets.total(asset)
     }
@@ -164,9 +165,9 @@ impl Book {
         n: u64,
     ) -> Result<u64, Fault>
         ensures before { IfOk result (λ before. before ≡ balance self.old.ledger asset.now to.now) }
-        ensures limit { OnOk result (total self.old.ledger asset.now + n ≤ total_limit) }
+        ensures limit { OnOk result (total self.old.ledger asset.now + n ≤ AMOUNT_LIMIT) }
         ensures ok { IfOk result (λ before. self.new ≡ with_balance self.old asset.now to.now (before + n)) }
-        ensures fault { IfErr result (λ fault. Because fault refusal.TotalLimit (total_limit < total self.old.ledger asset.now + n)) }
+        ensures fault { IfErr result (λ fault. Because fault refusal.TotalLimit (AMOUNT_LIMIT < total self.old.ledger asset.now + n)) }
         ensures err { OnErr result (self.new ≡ self.old) }
     {
         self.assets.issue(alloc, asset, to, n)
@@ -177,7 +178,7 @@ impl Book {
         requires { 0 < n }
         ensures before { IfOk result (λ before. before ≡ balance self.old.ledger asset.now from.now) }
         ensures funds { IfOk result (λ before. n ≤ before) }
-        ensures limit { OnOk result (total self.old.ledger asset.now ≤ total_limit) }
+        ensures limit { OnOk result (total self.old.ledger asset.now ≤ AMOUNT_LIMIT) }
         ensures ok { IfOk result (λ before. self.new ≡ with_balance self.old asset.now from.now (before - n)) }
         ensures fault { IfErr result (λ fault. Because fault refusal.Funds (balance self.old.ledger asset.now from.now < n)) }
         ensures err { OnErr result (self.new ≡ self.old) }
@@ -197,7 +198,7 @@ impl Book {
         ensures sender { IfOk result (λ before. before.sender ≡ balance self.old.ledger asset.now from.now) }
         ensures funds { IfOk result (λ before. n ≤ before.sender) }
         ensures receiver { IfOk result (λ before. before.receiver ≡ balance (set_balance self.old.ledger asset.now from.now (before.sender - n)) asset.now to.now) }
-        ensures limit { OnOk result (total self.old.ledger asset.now ≤ total_limit) }
+        ensures limit { OnOk result (total self.old.ledger asset.now ≤ AMOUNT_LIMIT) }
         ensures ok { IfOk result (λ before. self.new ≡ with_balance (with_balance self.old asset.now from.now (before.sender - n)) asset.now to.now (before.receiver + n)) }
         ensures fault { IfErr result (λ fault. Because fault refusal.Funds (balance self.old.ledger asset.now from.now < n)) }
         ensures err { OnErr result (self.new ≡ self.old) }
@@ -208,7 +209,7 @@ impl Book {
     /// Gives a holder that has a row this amount of the asset.
     pub(crate) fn restore_balance(&mut self, asset: &Asset, holder: &Holder, n: u64)
         requires row { IsTrue (has_row self.old.rows asset.now holder.now) }
-        requires limit { total self.old.ledger asset.now - balance self.old.ledger asset.now holder.now + n ≤ total_limit }
+        requires limit { total self.old.ledger asset.now - balance self.old.ledger asset.now holder.now + n ≤ AMOUNT_LIMIT }
         ensures { self.new ≡ with_balance self.old asset.now holder.now n }
     {
         self.assets.restore(asset, holder, n);

@@ -3,18 +3,18 @@ ghost use Rattle.std.specs.Prelude.{◌≡◌, ◌+◌, ◌-◌, ◌<◌, ◌≤
 ghost use Rattle.std.specs.FinSet as set;
 ghost use Rattle.indexmap.specs.IndexMap.{spare};
 ghost use Rattle.amm_model.specs.declared.fault.Refusal.TheVariants as refusal;
-ghost use Rattle.amm_model.specs.Ledger.{amount, sum_held, total_limit};
+ghost use Rattle.amm_model.specs.Ledger.{amount, sum_held};
+ghost use Rattle.amm_model.specs.declared.limits.TheConstants.{AMOUNT_LIMIT};
 ghost use Rattle.amm_state.specs.Rows.{table_of, empty_table, with_row, Because};
 
 use crate::Seed;
+use amm_model::limits::AMOUNT_LIMIT;
 use amm_model::{Fault, Refusal};
 use amm_names::{Holder, Memory};
 use indexmap::IndexMap;
 use std::alloc::Global;
 use std::marker::Model;
 use std::mem::replace;
-
-const TOTAL_LIMIT: u64 = 4503599627370495;
 
 /// The rows of one asset, and the sum of their amounts.
 #[derive(Drop)]
@@ -25,7 +25,8 @@ pub(crate) struct AssetRows {
 
 impl Model for AssetRows {
     ghost use Rattle.std.specs.Prelude.{◌≡◌, ◌≤◌};
-    ghost use Rattle.amm_model.specs.Ledger.{sum_held, total_limit};
+    ghost use Rattle.amm_model.specs.Ledger.{sum_held};
+    ghost use Rattle.amm_model.specs.declared.limits.TheConstants.{AMOUNT_LIMIT};
     ghost use Rattle.amm_state.specs.Rows.{AssetTable, asset_table_code, table_of, held_of};
 
     ghost Value = { AssetTable };
@@ -34,7 +35,7 @@ impl Model for AssetRows {
 
     ghost view = { λ table. table_of table.rows.entries };
 
-    ghost invariant = { λ table. (table.total ≡ sum_held (held_of table.rows.entries)) × (table.total ≤ total_limit) };
+    ghost invariant = { λ table. (table.total ≡ sum_held (held_of table.rows.entries)) × (table.total ≤ AMOUNT_LIMIT) };
 }
 
 /// What two holders had before units went from one to the other; where they are the same, the receiver's is what was
@@ -80,7 +81,7 @@ fn take_units(rows: &mut IndexMap<Holder, u64, Seed>, from: &Holder, n: u64) -> 
 
 // Adds n units at a holder, and gives what it had. A row that is there takes no memory.
 fn add_units(rows: &mut IndexMap<Holder, u64, Seed>, to: &Holder, n: u64) -> Result<u64, Memory>
-    requires { amount (table_of rows.old.entries).held to.now + n ≤ total_limit }
+    requires { amount (table_of rows.old.entries).held to.now + n ≤ AMOUNT_LIMIT }
     ensures before { IfOk result (λ before. before ≡ amount (table_of rows.old.entries).held to.now) }
     ensures added { IfOk result (λ before. table_of rows.new.entries ≡ with_row (table_of rows.old.entries) to.now (before + n)) }
     ensures err { OnErr result (rows.new.entries ≡ rows.old.entries) }
@@ -107,7 +108,7 @@ impl AssetRows {
 
     pub fn amount(&self, holder: &Holder) -> u64
         ensures amount { result ≡ amount self.now.held holder.now }
-        ensures limit { result ≤ total_limit }
+        ensures limit { result ≤ AMOUNT_LIMIT }
     {
         match self.rows.get(holder) {
             Some(amount) => *amount,
@@ -117,7 +118,7 @@ impl AssetRows {
 
     pub fn total(&self) -> u64
         ensures sum { result ≡ sum_held self.now.held }
-        ensures limit { result ≤ total_limit }
+        ensures limit { result ≤ AMOUNT_LIMIT }
     {
         self.total
     }
@@ -125,12 +126,12 @@ impl AssetRows {
     /// Adds n units at a holder, and gives what it had. `TotalLimit` exactly where the total would be above 2^52-1.
     pub fn issue(&mut self, to: &Holder, n: u64) -> Result<u64, Fault>
         ensures before { IfOk result (λ before. before ≡ amount self.old.held to.now) }
-        ensures limit { OnOk result (sum_held self.old.held + n ≤ total_limit) }
+        ensures limit { OnOk result (sum_held self.old.held + n ≤ AMOUNT_LIMIT) }
         ensures ok { IfOk result (λ before. self.new ≡ with_row self.old to.now (before + n)) }
-        ensures fault { IfErr result (λ fault. Because fault refusal.TotalLimit (total_limit < sum_held self.old.held + n)) }
+        ensures fault { IfErr result (λ fault. Because fault refusal.TotalLimit (AMOUNT_LIMIT < sum_held self.old.held + n)) }
         ensures err { OnErr result (self.new ≡ self.old) }
     {
-        if n > TOTAL_LIMIT - self.total {
+        if n > AMOUNT_LIMIT - self.total {
             return Err(Fault::Refused(Refusal::TotalLimit));
         }
         let before = add_units(&mut self.rows, to, n)?;
@@ -143,7 +144,7 @@ impl AssetRows {
         requires { 0 < n }
         ensures before { IfOk result (λ before. before ≡ amount self.old.held from.now) }
         ensures funds { IfOk result (λ before. n ≤ before) }
-        ensures limit { OnOk result (sum_held self.old.held ≤ total_limit) }
+        ensures limit { OnOk result (sum_held self.old.held ≤ AMOUNT_LIMIT) }
         ensures ok { IfOk result (λ before. self.new ≡ with_row self.old from.now (before - n)) }
         ensures fault { IfErr result (λ fault. Because fault refusal.Funds (amount self.old.held from.now < n)) }
         ensures err { OnErr result (self.new ≡ self.old) }
@@ -161,7 +162,7 @@ impl AssetRows {
         ensures sender { IfOk result (λ before. before.sender ≡ amount self.old.held from.now) }
         ensures funds { IfOk result (λ before. n ≤ before.sender) }
         ensures receiver { IfOk result (λ before. before.receiver ≡ amount (with_row self.old from.now (before.sender - n)).held to.now) }
-        ensures limit { OnOk result (sum_held self.old.held ≤ total_limit) }
+        ensures limit { OnOk result (sum_held self.old.held ≤ AMOUNT_LIMIT) }
         ensures ok { IfOk result (λ before. self.new ≡ with_row (with_row self.old from.now (before.sender - n)) to.now (before.receiver + n)) }
         ensures fault { IfErr result (λ fault. Because fault refusal.Funds (amount self.old.held from.now < n)) }
         ensures err { OnErr result (self.new ≡ self.old) }
@@ -178,7 +179,7 @@ impl AssetRows {
     /// Gives a holder that has a row this amount.
     pub fn restore(&mut self, holder: &Holder, n: u64)
         requires row { IsTrue (set.contains self.old.rows holder.now) }
-        requires limit { sum_held self.old.held - amount self.old.held holder.now + n ≤ total_limit }
+        requires limit { sum_held self.old.held - amount self.old.held holder.now + n ≤ AMOUNT_LIMIT }
         ensures { self.new ≡ with_row self.old holder.now n }
     {
         let before = replace_amount(&mut self.rows, holder, n).unwrap();

@@ -2,6 +2,7 @@
 ghost use Rattle.std.specs.Prelude.{◌≡◌, ◌≢◌, ◌≤◌, ◌⊎◌, ◌↔◌, ℕ, List, Some, length};
 ghost use Rattle.amm_io.specs.Causes.{HasCause, Rose};
 ghost use Rattle.amm_io.specs.Traffic.{TakesWithin};
+ghost use Rattle.amm_model.specs.declared.limits.TheConstants.{INPUT_LIMIT};
 ghost use Rattle.amm_model.specs.Ledger.{Ledger, opening_ledger};
 ghost use Rattle.amm_engine.specs.Service.{ServesAll, ServesEnded, ServesToLimit, BreaksOff, LacksMemory};
 ghost use Rattle.exchange.specs.declared.words.Request.TheVariants.{Run};
@@ -32,21 +33,21 @@ pub fn exchange<S: Source, K: Sink>(
 
     ensures read_fault { HasCause (S.faults source.old) (S.faults source.new) (result ≡ Status.ReadFault) }
     ensures write_fault { HasCause (K.faults sink.old) (K.faults sink.new) (result ≡ Status.WriteFault) }
-    ensures limit { TakesWithin 1073741824 (S.left source.old) (S.left source.new)
+    ensures limit { TakesWithin INPUT_LIMIT (S.left source.old) (S.left source.new)
         (result ≡ Status.InputLimit) ((result ≡ Status.WriteFault) ⊎ (result ≡ Status.Memory)) }
 
     ensures ended { result ≡ Status.ReadFault → (final : Ledger) ×
-        ServesEnded 1073741824 (S.left source.old) (S.left source.new) (K.written sink.old) (K.written sink.new) opening_ledger final }
+        ServesEnded INPUT_LIMIT (S.left source.old) (S.left source.new) (K.written sink.old) (K.written sink.new) opening_ledger final }
     ensures passed { result ≡ Status.InputLimit → (final : Ledger) ×
-        ServesToLimit 1073741824 (S.left source.old) (S.left source.new) (K.written sink.old) (K.written sink.new) opening_ledger final }
+        ServesToLimit INPUT_LIMIT (S.left source.old) (S.left source.new) (K.written sink.old) (K.written sink.new) opening_ledger final }
     ensures broken { result ≡ Status.WriteFault → (final : Ledger) ×
-        BreaksOff 1073741824 (S.left source.old) (S.left source.new) (K.written sink.old) (K.written sink.new) opening_ledger final }
+        BreaksOff INPUT_LIMIT (S.left source.old) (S.left source.new) (K.written sink.old) (K.written sink.new) opening_ledger final }
     ensures memory { result ≡ Status.Memory → (final : Ledger) ×
-        LacksMemory 1073741824 (S.left source.old) (S.left source.new) (K.written sink.old) (K.written sink.new) opening_ledger final }
+        LacksMemory INPUT_LIMIT (S.left source.old) (S.left source.new) (K.written sink.old) (K.written sink.new) opening_ledger final }
 
     // With no fault, an input within its limit is answered to its end, unless memory runs out.
     ensures complete { Asks words.now Run → (Rose (S.faults source.old) (S.faults source.new) → ⊥) → (Rose (K.faults sink.old) (K.faults sink.new) → ⊥) →
-        ((input : List ℕ) × (S.left source.old ≡ Some input) × (length input ≤ 1073741824)) → (result ≡ Status.Done) ⊎ (result ≡ Status.Memory) }
+        ((input : List ℕ) × (S.left source.old ≡ Some input) × (length input ≤ INPUT_LIMIT)) → (result ≡ Status.Done) ⊎ (result ≡ Status.Memory) }
 {
     match request_of(words) {
         Some(Request::Run) => run(alloc, seed, source, sink),
@@ -58,15 +59,15 @@ pub fn exchange<S: Source, K: Sink>(
 /// Answers the lines of the source from the opening ledger on.
 fn run<S: Source, K: Sink>(alloc: Global, seed: Seed, source: &mut S, sink: &mut K) -> Status
     ensures done { result ≡ Status.Done → (final : Ledger) ×
-        ServesAll 1073741824 (S.left source.old) (S.left source.new) (K.written sink.old) (K.written sink.new) opening_ledger final }
+        ServesAll INPUT_LIMIT (S.left source.old) (S.left source.new) (K.written sink.old) (K.written sink.new) opening_ledger final }
     ensures ended { result ≡ Status.ReadFault → (final : Ledger) ×
-        ServesEnded 1073741824 (S.left source.old) (S.left source.new) (K.written sink.old) (K.written sink.new) opening_ledger final }
+        ServesEnded INPUT_LIMIT (S.left source.old) (S.left source.new) (K.written sink.old) (K.written sink.new) opening_ledger final }
     ensures passed { result ≡ Status.InputLimit → (final : Ledger) ×
-        ServesToLimit 1073741824 (S.left source.old) (S.left source.new) (K.written sink.old) (K.written sink.new) opening_ledger final }
+        ServesToLimit INPUT_LIMIT (S.left source.old) (S.left source.new) (K.written sink.old) (K.written sink.new) opening_ledger final }
     ensures broken { result ≡ Status.WriteFault → (final : Ledger) ×
-        BreaksOff 1073741824 (S.left source.old) (S.left source.new) (K.written sink.old) (K.written sink.new) opening_ledger final }
+        BreaksOff INPUT_LIMIT (S.left source.old) (S.left source.new) (K.written sink.old) (K.written sink.new) opening_ledger final }
     ensures memory { result ≡ Status.Memory → (final : Ledger) ×
-        LacksMemory 1073741824 (S.left source.old) (S.left source.new) (K.written sink.old) (K.written sink.new) opening_ledger final }
+        LacksMemory INPUT_LIMIT (S.left source.old) (S.left source.new) (K.written sink.old) (K.written sink.new) opening_ledger final }
     ensures never { (result ≢ Status.No) × (result ≢ Status.Usage) }
     ensures read_fault { HasCause (S.faults source.old) (S.faults source.new) (result ≡ Status.ReadFault) }
     ensures write_fault { HasCause (K.faults sink.old) (K.faults sink.new) (result ≡ Status.WriteFault) }

@@ -7,13 +7,10 @@ ghost use Rattle.amm_state.specs.Tx.{Meets};
 
 use super::Tx;
 use crate::journal::Undo;
+use amm_model::limits::{PAIR_LIMIT, TOKEN_LIMIT};
 use amm_model::{Fault, PairRecord, Refusal};
 use amm_names::{Memory, PoolName, TokenName};
 use std::alloc::Global;
-
-const TOKEN_LIMIT: usize = 64;
-
-const PAIR_LIMIT: usize = 256;
 
 impl Tx {
     /// Lists the token, if it is not listed. `TokenLimit` exactly where 64 others are.

@@ -1,7 +1,8 @@
 //! Units of an asset: issued, retired, moved.
 ghost use Rattle.std.specs.Prelude.{◌≡◌, ◌+◌, ◌<◌, ◌≤◌, OnOk, OnErr, IfErr};
 ghost use Rattle.amm_model.specs.declared.fault.Refusal.TheVariants as refusal;
-ghost use Rattle.amm_model.specs.Ledger.{issue, retire, transfer, added, taken, moved, balance, total, total_limit};
+ghost use Rattle.amm_model.specs.Ledger.{issue, retire, transfer, added, taken, moved, balance, total};
+ghost use Rattle.amm_model.specs.declared.limits.TheConstants.{AMOUNT_LIMIT};
 ghost use Rattle.amm_state.specs.declared.mark.Mark.{Mark};
 ghost use Rattle.amm_state.specs.Rows.{Because};
 ghost use Rattle.amm_state.specs.Tx.{Meets};
@@ -27,9 +28,9 @@ impl Tx {
 
     // Adds the units, and notes what the holder had.
     fn add_units(&mut self, alloc: Global, asset: &Asset, to: &Holder, n: u64) -> Result<(), Fault>
-        ensures limit { OnOk result (total self.old.present asset.now + n ≤ total_limit) }
+        ensures limit { OnOk result (total self.old.present asset.now + n ≤ AMOUNT_LIMIT) }
         ensures ok { OnOk result (self.new ≡ record self.old { present = added self.old.present asset.now to.now n }) }
-        ensures fault { IfErr result (λ fault. Because fault refusal.TotalLimit (total_limit < total self.old.present asset.now + n)) }
+        ensures fault { IfErr result (λ fault. Because fault refusal.TotalLimit (AMOUNT_LIMIT < total self.old.present asset.now + n)) }
         ensures err { OnErr result (self.new ≡ self.old) }
     {
         self.journal.reserve(1)?;

@@ -3,7 +3,8 @@ use Rattle.std.specs.Map.{lookup}
 use Rattle.std.proofs.lemmas.Result.{IfOk-weaker, on_err_weaker, err_from_is_err_and}
 use Rattle.amm_names.specs.declared.holder.Asset.{Asset}
 use Rattle.amm_model.specs.declared.fault.Refusal.TheVariants.{TotalLimit}
-use Rattle.amm_model.specs.Ledger.{amount, sum_held, total_limit}
+use Rattle.amm_model.specs.Ledger.{amount, sum_held}
+use Rattle.amm_model.specs.declared.limits.TheConstants.{AMOUNT_LIMIT}
 use Rattle.amm_state.specs.Rows.{AssetTable, Because, empty_table, with_row}
 use Rattle.amm_state.specs.Assets.{tables_of}
 use Rattle.amm_state.proofs.AssetLemmas.{eq, found_table, put_in_place, put_new, tables_of-rewritten}
@@ -17,7 +18,7 @@ returns-in-Some-clause-before c =
 pub returns-in-Some-clause-limit : goal.returns-in-Some-clause-limit
 returns-in-Some-clause-limit c =
     let e = found_table c.self.inside.tables.entries c.args.asset.now (Some c.in-Some.rows.now) _ c.self.view_is c.in-Some.ensures.value in
-    subst (λ (t : AssetTable). OnOk c.issue.result (sum_held t.held + c.args.n ≤ total_limit)) e c.issue.ensures.limit
+    subst (λ (t : AssetTable). OnOk c.issue.result (sum_held t.held + c.args.n ≤ AMOUNT_LIMIT)) e c.issue.ensures.limit
 
 pub returns-in-Some-clause-ok : goal.returns-in-Some-clause-ok
 returns-in-Some-clause-ok c =
@@ -28,7 +29,7 @@ returns-in-Some-clause-ok c =
 pub returns-in-Some-clause-fault : goal.returns-in-Some-clause-fault
 returns-in-Some-clause-fault c =
     let e = found_table c.self.inside.tables.entries c.args.asset.now (Some c.in-Some.rows.now) _ c.self.view_is c.in-Some.ensures.value in
-    subst (λ (t : AssetTable). IfErr c.issue.result (λ fault. Because fault TotalLimit (total_limit < sum_held t.held + c.args.n))) e c.issue.ensures.fault
+    subst (λ (t : AssetTable). IfErr c.issue.result (λ fault. Because fault TotalLimit (AMOUNT_LIMIT < sum_held t.held + c.args.n))) e c.issue.ensures.fault
 
 pub returns-in-Some-clause-err : goal.returns-in-Some-clause-err
 returns-in-Some-clause-err c =
@@ -39,7 +40,7 @@ pub returns-in_err-before-clause-fault : goal.returns-in_err-before-clause-fault
 returns-in_err-before-clause-fault c =
     let e = c.new-rows.ensures ∙ found_table c.self.inside.tables.entries c.args.asset.now None _ c.self.view_is c.in_default.ensures.value in
     let p = err_from_is_err_and c.from_residual.result c.from_residual.ensures.1 in
-    rw (p.1, p.2) (subst (λ (t : AssetTable). Because c.in_err-before.field-0.0 TotalLimit (total_limit < sum_held t.held + c.args.n)) e c.in_err-before.ensures.fault)
+    rw (p.1, p.2) (subst (λ (t : AssetTable). Because c.in_err-before.field-0.0 TotalLimit (AMOUNT_LIMIT < sum_held t.held + c.args.n)) e c.in_err-before.ensures.fault)
 
 pub returns-clause-before : goal.returns-clause-before
 returns-clause-before c =
@@ -49,7 +50,7 @@ returns-clause-before c =
 pub returns-clause-limit : goal.returns-clause-limit
 returns-clause-limit c =
     let e = c.new-rows.ensures ∙ found_table c.self.inside.tables.entries c.args.asset.now None _ c.self.view_is c.in_default.ensures.value in
-    subst (λ (t : AssetTable). sum_held t.held + c.args.n ≤ total_limit) e c.in_ok-before.ensures.limit
+    subst (λ (t : AssetTable). sum_held t.held + c.args.n ≤ AMOUNT_LIMIT) e c.in_ok-before.ensures.limit
 
 pub returns-clause-ok : goal.returns-clause-ok
 returns-clause-ok c =

@@ -1,7 +1,8 @@
 use Rattle.std.proofs.Common.{◌+◌, ◌-◌, ◌≤◌, Some, None, true≢false, is_some, ap, sym, subst, ◌∙◌}
 use Rattle.std.specs.FinSet as set
 use Rattle.amm_names.specs.Order.{holder_cmp}
-use Rattle.amm_model.specs.Ledger.{amount, sum_held, total_limit}
+use Rattle.amm_model.specs.Ledger.{amount, sum_held}
+use Rattle.amm_model.specs.declared.limits.TheConstants.{AMOUNT_LIMIT}
 use Rattle.amm_state.specs.Rows.{AssetTable, with_row}
 use Rattle.amm_state.proofs.AssetLemmas.{found_table, put_in_place}
 use Rattle.amm_state.proofs.assets.Assets.restore.Goals as goal
@@ -14,7 +15,7 @@ restore-requires-clause-row c =
 pub restore-requires-clause-limit : goal.restore-requires-clause-limit
 restore-requires-clause-limit c =
     let e = found_table c.self.inside.tables.entries c.args.asset.now (Some c.in-Some.rows.now) _ c.self.view_is c.in-Some.ensures.value in
-    subst (λ (t : AssetTable). sum_held t.held - amount t.held c.args.holder.now + c.args.n ≤ total_limit) (sym e) c.requires.limit
+    subst (λ (t : AssetTable). sum_held t.held - amount t.held c.args.holder.now + c.args.n ≤ AMOUNT_LIMIT) (sym e) c.requires.limit
 
 pub returns : goal.returns
 returns c =

@@ -1,7 +1,8 @@
 use Rattle.std.proofs.Common.{◌≡◌, ◌-◌, ◌<◌, ◌≤◌, Some, None, is_some, refl, ap, sym, subst, ◌∙◌, OnOk, IfOk, IfErr, arith}
 use Rattle.std.proofs.lemmas.Result.{IfOk-weaker, on_err_weaker}
 use Rattle.amm_model.specs.declared.fault.Refusal.TheVariants.{Funds}
-use Rattle.amm_model.specs.Ledger.{amount, sum_held, holdings_of, total_limit}
+use Rattle.amm_model.specs.Ledger.{amount, sum_held, holdings_of}
+use Rattle.amm_model.specs.declared.limits.TheConstants.{AMOUNT_LIMIT}
 use Rattle.amm_model.proofs.LedgerLemmas.{amount-empty}
 use Rattle.amm_state.specs.Rows.{AssetTable, Because, with_row}
 use Rattle.amm_state.proofs.AssetLemmas.{found_table, put_in_place, tables_of-rewritten}
@@ -21,7 +22,7 @@ returns-clause-before c =
 pub returns-clause-limit : goal.returns-clause-limit
 returns-clause-limit c =
     let e = found_table c.self.inside.tables.entries c.args.asset.now (Some c.in-Some.rows.now) _ c.self.view_is c.in-Some.ensures.value in
-    subst (λ (t : AssetTable). OnOk c.retire.result (sum_held t.held ≤ total_limit)) e c.retire.ensures.limit
+    subst (λ (t : AssetTable). OnOk c.retire.result (sum_held t.held ≤ AMOUNT_LIMIT)) e c.retire.ensures.limit
 
 pub returns-clause-ok : goal.returns-clause-ok
 returns-clause-ok c =
