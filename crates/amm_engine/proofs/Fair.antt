@@ -118,7 +118,7 @@ promised old (command.balance asset holder) made fits is =
 promised old (command.total asset) made fits is =
     asked_only (command.total asset) old (known old asset) _ made (λ x token. refl) (λ x. record { accepted = λ why e. cc; written = tt }) is
 promised old (command.act actor step) made fits is =
-    let kept = step_kept step old actor made fits.1 is in
+    let kept = step_kept step old actor made fits.0 fits.1 is in
     record { rest = kept_rest old made.ledger kept; zero = kept.zero; totals = kept.later.totals; told = step_told old actor step made is }
 promised old (command.quote_out path n) made fits is =
     asked_only (command.quote_out path n) old (amounts_out old path n) answers.QuoteOut made (λ x token. refl) (λ x. record { accepted = λ why e. cc; written = tt }) is

@@ -7,6 +7,7 @@
 
 ghost use Rattle.std.specs.Prelude.{◌≡◌, OnOk};
 ghost use Rattle.amm_model.specs.Factory.{create, set_fee_to, set_setter};
+ghost use Rattle.amm_model.specs.Later.{Later};
 ghost use Rattle.amm_model.specs.Pools.{same_name};
 ghost use Rattle.amm_model.specs.Sound.{IsSound};
 ghost use Rattle.amm_model.specs.Swap.{IsFee};
@@ -34,6 +35,7 @@ pub fn create(
     requires fee { IsFee fee }
     ensures meets { Meets tx.old tx.new result (create tx.old.present a.now b.now fee) }
     ensures sound { OnOk result (IsSound tx.new.present) }
+    ensures later { OnOk result (Later tx.old.present tx.new.present) }
 {
     // Their clauses say that both are spelled as tokens are.
     let _ = a.as_bytes();

@@ -1,17 +1,17 @@
--- The forms of values give names that are names, and numbers within their limits.
+-- The forms of values give names that are names, and numbers and lengths within their limits.
 use Rattle.std.proofs.Common.{◌≡◌, ◌≤◌, ◌∷◌, ℕ, suc, nat_le, Bool, true, false, ◌&&◌, List, [], length, map, Result, Ok, refl, ap, subst, arith}
 use Rattle.std.specs.Prelude.{IsTrue}
 use Rattle.std.specs.List.{All}
 use Rattle.std.proofs.lemmas.List.Elements.{All-nil, All-cons}
 use Rattle.std.proofs.lemmas.Bool.Decides.{nat_tests}
 use Rattle.serde_json.specs.Data.{Data, null, boolean, number, string, array, object}
-use Rattle.amm_names.specs.Names.{is_user_name, is_token_name}
+use Rattle.amm_names.specs.Names.{is_token_name}
 use Rattle.amm_names.specs.Pools.{is_pool_name, is_fee}
 use Rattle.amm_model.specs.declared.fault.Refusal.{Refusal}
 use Rattle.amm_model.specs.declared.path.RoutePath.{RoutePath}
 use Rattle.amm_model.specs.Outcome.{◌>>=◌}
 use Rattle.amm_model.specs.Swap.{IsFee}
-use Rattle.amm_model.specs.Forms.{as_text, as_list, as_user, as_token, as_pool, as_path, as_amount, as_fee, as_whole, fee_behind, fitting, Hop, hops, path_along}
+use Rattle.amm_model.specs.Forms.{as_text, as_list, as_token, as_pool, as_path, as_amount, as_fee, as_whole, fee_behind, fitting, Hop, hops, path_along}
 use Rattle.amm_model.specs.declared.limits.TheConstants.{AMOUNT_LIMIT, PATH_LEAST, PATH_LIMIT}
 use Rattle.amm_model.specs.Fits.{IsAmount, IsPath}
 use Rattle.amm_model.proofs.Guards.{given, same_answer}
@@ -27,10 +27,6 @@ passed_of first test made is =
     let one = given first _ made is in
     let both = passed (test one.value) one.value made one.after in
     subst (λ x. IsTrue (test x)) both.1 both.0
-
-pub user_named : (d : Data) (name : List ℕ) → as_user d ≡ Ok name → IsTrue (is_user_name name)
-unfolding as_user
-user_named d name is = passed_of (as_text d) is_user_name name is
 
 pub token_named : (d : Data) (name : List ℕ) → as_token d ≡ Ok name → IsTrue (is_token_name name)
 unfolding as_token
@@ -60,16 +56,14 @@ fee_behind_fits (d ∷ e ∷ more) fee is = cc
 
 pub record HopsFit (hs : List Hop) : Type 0 where
   pub fees : All IsFee (map (λ hop. hop.fee) hs)
-  pub tokens : All (λ token. IsTrue (is_token_name token)) (map (λ hop. hop.token) hs)
   pub count : length (map (λ hop. hop.fee) hs) ≡ length (map (λ hop. hop.token) hs)
 
 no_hops_fit : HopsFit []
-no_hops_fit = record { fees = All-nil IsFee; tokens = All-nil (λ token. IsTrue (is_token_name token)); count = refl }
+no_hops_fit = record { fees = All-nil IsFee; count = refl }
 
-hop_fits : (hop : Hop) (more : List Hop) → IsFee hop.fee → IsTrue (is_token_name hop.token) → HopsFit more → HopsFit (hop ∷ more)
-hop_fits hop more fee token fit = record {
+hop_fits : (hop : Hop) (more : List Hop) → IsFee hop.fee → HopsFit more → HopsFit (hop ∷ more)
+hop_fits hop more fee fit = record {
   fees = All-cons IsFee hop.fee (map (λ h. h.fee) more) fee fit.fees;
-  tokens = All-cons (λ t. IsTrue (is_token_name t)) hop.token (map (λ h. h.token) more) token fit.tokens;
   count = ap suc fit.count;
 }
 
@@ -78,7 +72,7 @@ at_three : (next : Data) (rest : List Data) (hs : List Hop) → ((more : List Ho
 at_three next rest hs fit is =
     let token = given (as_token next) _ hs is in
     let more = given (hops rest) _ hs token.after in
-    subst HopsFit (same_answer _ hs more.after) (hop_fits (record { fee = 3; token = token.value }) more.value refl (token_named next token.value token.was) (fit more.value more.was))
+    subst HopsFit (same_answer _ hs more.after) (hop_fits (record { fee = 3; token = token.value }) more.value refl (fit more.value more.was))
 
 hops_fit : (ds : List Data) (hs : List Hop) → hops ds ≡ Ok hs → HopsFit hs
 unfolding hops
@@ -89,7 +83,7 @@ hops_fit (number n ∷ next ∷ rest) hs is =
     let token = given (as_token next) _ hs fee.after in
     let more = given (hops rest) _ hs token.after in
     subst HopsFit (same_answer _ hs more.after)
-    (hop_fits (record { fee = fee.value; token = token.value }) more.value (fee_fits (number n) fee.value fee.was) (token_named next token.value token.was) (hops_fit rest more.value more.was))
+    (hop_fits (record { fee = fee.value; token = token.value }) more.value (fee_fits (number n) fee.value fee.was) (hops_fit rest more.value more.was))
 hops_fit (null ∷ rest) hs is = at_three null rest hs (λ more e. hops_fit rest more e) is
 hops_fit (boolean b ∷ rest) hs is = at_three (boolean b) rest hs (λ more e. hops_fit rest more e) is
 hops_fit (string s ∷ rest) hs is = at_three (string s) rest hs (λ more e. hops_fit rest more e) is
@@ -98,7 +92,6 @@ hops_fit (object ms ∷ rest) hs is = at_three (object ms) rest hs (λ more e. h
 
 -- a path, but for how many tokens it has
 pub record Along (path : RoutePath) : Type 0 where
-  pub tokens : All (λ token. IsTrue (is_token_name token)) path.tokens
   pub fees : All IsFee path.fees
   pub between : suc (length path.fees) ≡ length path.tokens
 
@@ -109,7 +102,6 @@ along_fits (first ∷ rest) path is =
     let more = given (hops rest) _ path token.after in
     let fit = hops_fit rest more.value more.was in
     subst Along (same_answer _ path more.after) (record {
-      tokens = All-cons (λ t. IsTrue (is_token_name t)) token.value (map (λ hop. hop.token) more.value) (token_named first token.value token.was) fit.tokens;
       fees = fit.fees;
       between = ap suc fit.count;
     })
@@ -131,4 +123,4 @@ path_fits d path is =
     let sides = both_true (nat_le PATH_LEAST (length along.value.tokens)) (nat_le (length along.value.tokens) PATH_LIMIT) both.0 in
     let size = within (length along.value.tokens) sides.0 sides.1 in
     let fit = along_fits ds.value along.value along.was in
-    subst IsPath both.1 (record { tokens = fit.tokens; fees = fit.fees; between = fit.between; least = size.0; most = size.1 })
+    subst IsPath both.1 (record { fees = fit.fees; between = fit.between; least = size.0; most = size.1 })

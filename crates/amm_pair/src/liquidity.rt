@@ -3,6 +3,7 @@ ghost use Rattle.std.specs.Prelude.{◌≡◌, ◌≢◌, ◌+◌, ◌*◌, ◌�
 ghost use Rattle.amm_model.specs.Pools.{supply};
 ghost use Rattle.amm_model.specs.declared.limits.TheConstants.{FIRST_LOCKED, RESERVE_LIMIT, AMOUNT_LIMIT};
 ghost use Rattle.amm_model.specs.Operations.{mint, burn, parts_of, pay_out, shares_for, PerShareKept};
+ghost use Rattle.amm_model.specs.Later.{Later};
 ghost use Rattle.amm_model.specs.Sound.{IsSound, IsCovered};
 ghost use Rattle.amm_state.specs.Tx.{Meets};
 
@@ -96,6 +97,7 @@ pub fn burn(alloc: Global, tx: &mut Tx, pool: &PoolName, to: &Holder) -> Result<
     requires sound { IsSound tx.old.present }
     ensures meets { Meets tx.old tx.new result (burn tx.old.present pool.now to.now) }
     ensures sound { OnOk result (IsSound tx.new.present) }
+    ensures later { OnOk result (Later tx.old.present tx.new.present) }
     ensures per_share { IfOk result (λ receipt. PerShareKept tx.old.present tx.new.present pool.now receipt.fee_shares) }
 {
     // Its clause says that the two tokens differ.

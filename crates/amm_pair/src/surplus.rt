@@ -1,6 +1,7 @@
 //! What a pool has above its reserves: sent away, or taken into the reserves.
 ghost use Rattle.std.specs.Prelude.{◌≡◌, OnOk};
 ghost use Rattle.amm_model.specs.Operations.{excess, skim, sync};
+ghost use Rattle.amm_model.specs.Later.{Later};
 ghost use Rattle.amm_model.specs.Sound.{IsSound};
 ghost use Rattle.amm_state.specs.Tx.{Meets};
 
@@ -50,6 +51,7 @@ pub fn skim(alloc: Global, tx: &mut Tx, pool: &PoolName, to: &Holder) -> Result<
     requires sound { IsSound tx.old.present }
     ensures meets { Meets tx.old tx.new result (skim tx.old.present pool.now to.now) }
     ensures sound { OnOk result (IsSound tx.new.present) }
+    ensures later { OnOk result (Later tx.old.present tx.new.present) }
 {
     // Its clause says that the two tokens differ.
     let _ = pool.as_bytes();

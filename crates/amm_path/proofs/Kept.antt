@@ -17,7 +17,6 @@ use Rattle.amm_model.specs.declared.path.RoutePath.{RoutePath}
 use Rattle.amm_model.specs.declared.command.AddWant.{AddWant}
 use Rattle.amm_model.specs.declared.command.RemoveWant.{RemoveWant}
 use Rattle.amm_model.specs.declared.fault.Refusal.TheVariants as code
-use Rattle.amm_model.specs.Fits.{FitsAdd, FitsRemove}
 use Rattle.amm_model.specs.Ledger.{Ledger, Outcome, Made, pair_of, transfer}
 use Rattle.amm_model.specs.Operations.{if_there, swap, mint, burn}
 use Rattle.amm_model.specs.Factory.{create}
@@ -77,10 +76,11 @@ exact_out_kept ledger actor path y most to deadline made is =
 
 -- ---- liquidity
 
-record FitsPair (a b : List ℕ) (fee : ℕ) : Type 0 where
-  first : IsTrue (is_token_name a)
-  second : IsTrue (is_token_name b)
-  at_a_fee : IsFee fee
+-- two names of tokens and a fee, as a pool has them
+pub record FitsPair (a b : List ℕ) (fee : ℕ) : Type 0 where
+  pub first : IsTrue (is_token_name a)
+  pub second : IsTrue (is_token_name b)
+  pub at_a_fee : IsFee fee
 
 module _ (ledger : Ledger) (a b : List ℕ) (fee : ℕ) (made : Made (List ℕ)) where
   creates : (there : Bool) (pool : List ℕ) → (◌≡◌ {A = Outcome (List ℕ)} (if there then Ok (record { ledger = ledger; answer = pool }) else create ledger a b fee) (Ok made)) → FitsPair a b fee → Kept ledger made.ledger
@@ -93,7 +93,7 @@ module _ (ledger : Ledger) (a b : List ℕ) (fee : ℕ) (made : Made (List ℕ))
       let named = given (ok_or (pool_between a b fee) code.Identical) _ made is in
       creates (is_some (pair_of ledger.pairs named.value)) named.value named.after fits
 
-pub add_kept : (ledger : Ledger) (actor : List ℕ) (want : AddWant) (to : Holder) (deadline : ℕ) (made : Made AddReceipt) → FitsAdd want → add ledger actor want to deadline ≡ Ok made → Kept ledger made.ledger
+pub add_kept : (ledger : Ledger) (actor : List ℕ) (want : AddWant) (to : Holder) (deadline : ℕ) (made : Made AddReceipt) → FitsPair want.a want.b want.fee → add ledger actor want to deadline ≡ Ok made → Kept ledger made.ledger
 unfolding add
 add_kept ledger actor want to deadline made fits is =
     let timely = not_refused (nat_lt deadline ledger.time) code.Expired _ made is in
@@ -105,7 +105,7 @@ add_kept ledger actor want to deadline made fits is =
     let minted = given (mint second.value.ledger side.value.pool to) _ made second.after in
     let e = same_answer (record { ledger = minted.value.ledger; answer = record { a = amounts.value.a; b = amounts.value.b; shares = minted.value.answer.shares } }) made minted.after in
     subst (λ (m : Made AddReceipt). Kept ledger m.ledger) e
-    (kept_then ledger there.value.ledger minted.value.ledger (with_pool_kept ledger want.a want.b want.fee there.value (record { first = fits.a; second = fits.b; at_a_fee = fits.fee }) there.was)
+    (kept_then ledger there.value.ledger minted.value.ledger (with_pool_kept ledger want.a want.b want.fee there.value fits there.was)
     (kept_then there.value.ledger first.value.ledger minted.value.ledger (transfer_kept there.value.ledger (assets.Token want.a) actor (holders.Pool side.value.pool) amounts.value.a first.value first.was)
     (kept_then first.value.ledger second.value.ledger minted.value.ledger (transfer_kept first.value.ledger (assets.Token want.b) actor (holders.Pool side.value.pool) amounts.value.b second.value second.was)
     (mint_kept second.value.ledger side.value.pool to minted.value minted.was))))
@@ -128,7 +128,7 @@ sides_apart a b fee pool fits named same = elim (tokens_between a b fee fits.fir
   | inr e ↦ not_with_itself a fee pool (ap (λ (x : List ℕ). pool_between a x fee) (sym e.1 ∙ sym same ∙ e.0) ∙ named)
 ]
 
-pub remove_kept : (ledger : Ledger) (actor : List ℕ) (want : RemoveWant) (to : Holder) (deadline : ℕ) (made : Made RemoveReceipt) → FitsRemove want → remove ledger actor want to deadline ≡ Ok made
+pub remove_kept : (ledger : Ledger) (actor : List ℕ) (want : RemoveWant) (to : Holder) (deadline : ℕ) (made : Made RemoveReceipt) → FitsPair want.a want.b want.fee → remove ledger actor want to deadline ≡ Ok made
     → Kept ledger made.ledger
 unfolding remove
 remove_kept ledger actor want to deadline made fits is =
@@ -140,7 +140,7 @@ remove_kept ledger actor want to deadline made fits is =
     let enough_a = not_refused (nat_lt paid.a want.a_min) code.InsufficientAAmount _ made burnt.after in
     let enough_b = not_refused (nat_lt paid.b want.b_min) code.InsufficientBAmount _ made enough_a.1 in
     let e = same_answer (record { ledger = burnt.value.ledger; answer = paid }) made enough_b.1 in
-    let apart = sides_apart want.a want.b want.fee side.value.pool (record { first = fits.a; second = fits.b; at_a_fee = fits.fee }) (side_named ledger want.a want.b want.fee side.value side.was) in
+    let apart = sides_apart want.a want.b want.fee side.value.pool fits (side_named ledger want.a want.b want.fee side.value side.was) in
     subst (λ (m : Made RemoveReceipt). Kept ledger m.ledger) e
     (kept_then ledger sent.value.ledger burnt.value.ledger (transfer_kept ledger (assets.Share side.value.pool) actor (holders.Pool side.value.pool) want.shares sent.value sent.was)
     (burn_kept sent.value.ledger side.value.pool to burnt.value burnt.was apart))

@@ -2,6 +2,7 @@
 ghost use Rattle.std.specs.Prelude.{◌≡◌, ◌≤◌, ◌<◌, OnOk, IfOk};
 ghost use Rattle.amm_model.specs.Swap.{IsFee, quote_of};
 ghost use Rattle.amm_model.specs.Fits.{FitsAdd, FitsRemove};
+ghost use Rattle.amm_model.specs.Later.{Later};
 ghost use Rattle.amm_model.specs.declared.limits.TheConstants.{AMOUNT_LIMIT, RESERVE_LIMIT};
 ghost use Rattle.amm_model.specs.Router.{with_pool, match_a, match_b, matched, paid_in_order, add, remove};
 ghost use Rattle.amm_model.specs.Sound.{IsSound};
@@ -25,8 +26,30 @@ use std::alloc::Global;
 /// Refused, in this order: EXPIRED; for a missing pair IDENTICAL, UNKNOWN_TOKEN, PAIR_LIMIT; where
 /// there are reserves INSUFFICIENT_AMOUNT, INSUFFICIENT_LIQUIDITY, and INSUFFICIENT_B_AMOUNT or
 /// INSUFFICIENT_A_AMOUNT; FUNDS; the refusals of a mint.
-#[tactic(auto, unfolding(amm_model::specs::Router::add))]
 pub fn add(
+    alloc: Global,
+    tx: &mut Tx,
+    actor: &UserName,
+    want: &AddWant,
+    to: &Holder,
+    deadline: u64,
+) -> Result<AddReceipt, Fault>
+    requires clean { tx.old.mark ≡ Mark.Clean }
+    requires sound { IsSound tx.old.present }
+    requires want { FitsAdd want.now }
+    ensures meets { Meets tx.old tx.new result (add tx.old.present actor.now want.now to.now deadline) }
+    ensures sound { OnOk result (IsSound tx.new.present) }
+    ensures later { OnOk result (Later tx.old.present tx.new.present) }
+{
+    // Their clauses say that both are spelled as tokens are.
+    let _ = want.a.as_bytes();
+    let _ = want.b.as_bytes();
+    add_at(alloc, tx, actor, want, to, deadline)
+}
+
+// The same, as its definition says.
+#[tactic(auto, unfolding(amm_model::specs::Router::add))]
+fn add_at(
     alloc: Global,
     tx: &mut Tx,
     actor: &UserName,
@@ -167,8 +190,30 @@ fn match_a(want: &AddWant, ra: u64, rb: u64) -> Result<Matched, Refusal>
 ///
 /// Refused, in this order: EXPIRED, IDENTICAL, NO_PAIR, FUNDS, the refusals of a burn,
 /// INSUFFICIENT_A_AMOUNT, INSUFFICIENT_B_AMOUNT.
-#[tactic(auto, unfolding(amm_model::specs::Router::remove))]
 pub fn remove(
+    alloc: Global,
+    tx: &mut Tx,
+    actor: &UserName,
+    want: &RemoveWant,
+    to: &Holder,
+    deadline: u64,
+) -> Result<RemoveReceipt, Fault>
+    requires clean { tx.old.mark ≡ Mark.Clean }
+    requires sound { IsSound tx.old.present }
+    requires want { FitsRemove want.now }
+    ensures meets { Meets tx.old tx.new result (remove tx.old.present actor.now want.now to.now deadline) }
+    ensures sound { OnOk result (IsSound tx.new.present) }
+    ensures later { OnOk result (Later tx.old.present tx.new.present) }
+{
+    // Their clauses say that both are spelled as tokens are.
+    let _ = want.a.as_bytes();
+    let _ = want.b.as_bytes();
+    remove_at(alloc, tx, actor, want, to, deadline)
+}
+
+// The same, as its definition says.
+#[tactic(auto, unfolding(amm_model::specs::Router::remove))]
+fn remove_at(
     alloc: Global,
     tx: &mut Tx,
     actor: &UserName,

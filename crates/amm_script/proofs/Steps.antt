@@ -1,5 +1,5 @@
 -- Steps that are run one after another, seen as their moves.
-use Rattle.std.proofs.Common.{◌≡◌, ◌<◌, ◌≤◌, ◌+◌, ℕ, suc, List, length, drop, get_or, Vec, Global, Result, Ok, Err, refl, sym, ap, ◌∙◌, subst, add-one, drop-cons}
+use Rattle.std.proofs.Common.{◌≡◌, ◌<◌, ◌≤◌, ◌+◌, ℕ, suc, List, length, drop, get_or, Vec, Global, Result, Ok, Err, OnOk, refl, sym, ap, ◌∙◌, subst, add-one, drop-cons}
 use Rattle.std.proofs.lemmas.List.{drop_all}
 use Rattle.amm_model.specs.declared.command.Step.{Step}
 use Rattle.amm_model.specs.declared.command.Step as steps
@@ -16,6 +16,7 @@ use Rattle.amm_model.specs.declared.fault.Fault.TheVariants as faults
 use Rattle.amm_model.specs.Outcome.{◌>>=◌}
 use Rattle.amm_model.specs.Ledger.{Ledger, Made, Outcome}
 use Rattle.amm_model.specs.Pools.{Terms}
+use Rattle.amm_model.specs.Later.{Later}
 use Rattle.amm_model.specs.Sound.{IsOpen}
 use Rattle.amm_model.specs.CommandView as view
 use Rattle.amm_model.specs.CommandView.{Move, Moves, move_of_step, moves_of_steps}
@@ -23,21 +24,26 @@ use Rattle.amm_model.specs.Fits.{FitsMove, FitMoves}
 use Rattle.amm_model.specs.Meaning.{meaning, meaning_of_all, as_answer}
 use Rattle.amm_model.proofs.Moves.{move_of-Flash}
 use Rattle.amm_state.specs.Tx.{Progress, Accepts, Meets}
+use Rattle.amm_state.specs.declared.mark.Mark.TheVariants as marks
 use Rattle.amm_model.proofs.Guards.{Given, given, same_answer}
 use Rattle.amm_state.proofs.TxLemmas.{meets_after}
-use Rattle.amm_script.proofs.Laws.{steps_kept}
+use Rattle.amm_pair.proofs.Laters.{later_loan}
 
 -- the steps of a loan that fits fit
 pub inner_fit : (step : Step) (pool : List ℕ) (out0 out1 : ℕ) (inside : Vec Step Global) (given : List Step) → given ≡ inside.items → step ≡ steps.Flash pool out0 out1 inside → FitsMove (move_of_step step) → FitMoves (moves_of_steps given)
 inner_fit step pool out0 out1 inside given same is fits =
-    subst (λ (ss : List Step). FitMoves (moves_of_steps ss)) (sym same) (subst FitsMove (ap move_of_step is ∙ move_of-Flash pool out0 out1 inside) fits).1.1.1
+    subst (λ (ss : List Step). FitMoves (moves_of_steps ss)) (sym same) (subst FitsMove (ap move_of_step is ∙ move_of-Flash pool out0 out1 inside) fits).1.1
 
 -- a loan that is open stays open while steps run
-pub still_open : (ms : Moves) (old : Ledger) (actor : List ℕ) (made : Made (Unit {0})) (loan : Terms) → FitMoves ms → meaning_of_all old actor ms ≡ Ok made → IsOpen old loan → IsOpen made.ledger loan
-still_open ms old actor made loan fits is open_loan = record {
-  there = (steps_kept ms old actor made fits is).later.locked loan.pool loan.pair open_loan.there open_loan.locked;
-  locked = open_loan.locked;
-}
+pub still_open : (old new : Ledger) (loan : Terms) → Later old new → IsOpen old loan → IsOpen new loan
+still_open old new loan later open_loan = record { there = later.locked loan.pool loan.pair open_loan.there open_loan.locked; locked = open_loan.locked }
+
+-- a call that left the mark clean was accepted
+pub clean_later : {A : Type 0} (old new : Progress) (answer : Result A Fault) (outcome : Outcome A) → Meets old new answer outcome → OnOk answer (Later old.present new.present)
+    → new.mark ≡ marks.Clean → Later old.present new.present
+clean_later old new (Ok a) outcome meets later clean = later
+clean_later old new (Err (faults.Refused why)) outcome meets later clean = absurd (let both : marks.Refused why ≡ marks.Clean = sym meets.mark ∙ clean in cc)
+clean_later old new (Err faults.Memory) outcome meets later clean = absurd (let both : marks.NoMemory ≡ marks.Clean = sym meets.mark ∙ clean in cc)
 
 -- the next step, and those behind it
 pub next_move : (ss : List Step) (i : ℕ) (step : Step) → i < length ss → step ≡ get_or ss i step → moves_of_steps (drop i ss) ≡ view.move (move_of_step step) (moves_of_steps (drop (i + 1) ss))
@@ -146,3 +152,9 @@ module _ (actor pool : List ℕ) (out0 out1 : ℕ) (ms : Moves) (old : Progress)
       pub returned : (new : Progress) (receipt : SwapReceipt) → Accepts ran new receipt (give_back ran.present loan.pool loan.out0 loan.out1) → Accepts old new (answers.Flash receipt) whole
       returned new receipt accepted =
           after new (Ok (answers.Flash receipt)) (record { gives = ap (as_answer answers.Flash) (returns ran.present ∙ accepted.gives); opening = accepted.opening; mark = accepted.mark })
+
+      -- and what is promised of a later ledger holds after it
+      pub returned_later : (new : Progress) (receipt : SwapReceipt) → Later lent.present ran.present → Accepts ran new receipt (give_back ran.present loan.pool loan.out0 loan.out1) → Later old.present new.present
+      returned_later new receipt within accepted =
+          later_loan old.present pool out0 out1 to (record { ledger = lent.present; answer = loan.pair }) lends.gives ran.present within
+          (record { ledger = new.present; answer = receipt }) (returns ran.present ∙ accepted.gives)

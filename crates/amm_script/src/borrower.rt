@@ -7,7 +7,7 @@ ghost use Rattle.amm_model.specs.Meaning.{meaning, meaning_of_all};
 ghost use Rattle.amm_model.specs.Sound.{IsSound};
 ghost use Rattle.amm_state.specs.Tx.{Meets};
 ghost use Rattle.amm_flash.specs.End.{IsDone};
-ghost use Rattle.amm_script.specs.OneProof.{moves_prop};
+ghost use Rattle.amm_model.proofs.OneProof.{moves_prop};
 
 use crate::run::run_steps;
 use amm_flash::{Borrower, flash};

@@ -3,6 +3,7 @@ ghost use Rattle.std.specs.Prelude.{◌≡◌, OnOk};
 ghost use Rattle.amm_model.specs.CommandView as view;
 ghost use Rattle.amm_model.specs.CommandView.{move_of_step, moves_of_steps};
 ghost use Rattle.amm_model.specs.Fits.{FitsMove, FitMoves};
+ghost use Rattle.amm_model.specs.Later.{Later};
 ghost use Rattle.amm_model.specs.Meaning.{meaning, meaning_of_all, synced};
 ghost use Rattle.amm_model.specs.Sound.{IsSound};
 ghost use Rattle.amm_state.specs.Tx.{Meets};
@@ -15,15 +16,17 @@ use amm_path::{add, remove, swap_exact_in, swap_exact_out};
 use amm_state::{Mark, Tx};
 use std::alloc::Global;
 
-/// Does one step of the actor. A kind that is not answered yet is refused.
+/// Does one step of the actor, whose numbers, fees and lengths are within their limits. A kind that
+/// is not answered yet is refused.
 #[cycle(script)]
-#[tactic(auto, unfolding(amm_model::specs::Meaning::meaning), using(crate::proofs::Steps::inner_fit))]
+#[tactic(auto, unfolding(amm_model::specs::Meaning::meaning), using(crate::proofs::Steps::inner_fit, crate::proofs::Laws::transfer_later, crate::proofs::Laws::sync_later, crate::proofs::Laws::mint_later, crate::proofs::Laws::swap_later, crate::proofs::Laws::swap_in_later, crate::proofs::Laws::swap_out_later))]
 pub fn run_step(alloc: Global, tx: &mut Tx, actor: &UserName, step: &Step) -> Result<Answer, Fault>
     requires clean { tx.old.mark ≡ Mark.Clean }
     requires sound { IsSound tx.old.present }
     requires fits { FitsMove (move_of_step step.now) }
     ensures meets { Meets tx.old tx.new result (meaning tx.old.present actor.now (move_of_step step.now)) }
     ensures sound { OnOk result (IsSound tx.new.present) }
+    ensures later { OnOk result (Later tx.old.present tx.new.present) }
 {
     match step {
         Step::Transfer { asset, to, n } => send(alloc, tx, actor, asset, to, *n),
@@ -109,6 +112,7 @@ fn flash(
     requires fits { FitMoves (moves_of_steps steps.now) }
     ensures meets { Meets tx.old tx.new result (meaning tx.old.present actor.now (view.flash pool.now out0 out1 (moves_of_steps steps.now))) }
     ensures sound { OnOk result (IsSound tx.new.present) }
+    ensures later { OnOk result (Later tx.old.present tx.new.present) }
 {
     let loan = open_loan(alloc, tx, pool, out0, out1, &Holder::User(*actor))?;
     match run_steps(alloc, tx, actor, steps) {
@@ -128,6 +132,7 @@ pub fn run_steps(alloc: Global, tx: &mut Tx, actor: &UserName, steps: &[Step]) -
     requires fits { FitMoves (moves_of_steps steps.now) }
     ensures meets { Meets tx.old tx.new result (meaning_of_all tx.old.present actor.now (moves_of_steps steps.now)) }
     ensures sound { OnOk result (IsSound tx.new.present) }
+    ensures later { OnOk result (Later tx.old.present tx.new.present) }
 {
     for step in steps {
         run_step(alloc, tx, actor, step)?;

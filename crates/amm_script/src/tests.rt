@@ -87,8 +87,6 @@ fn create(alloc: Global, tx: &mut Tx, names: &Names) -> Result<Answer, Fault>
 {
     let a = names.usd;
     let b = names.eth;
-    let _ = a.as_bytes();
-    let _ = b.as_bytes();
     run_step(alloc, tx, &names.alice, &Step::Create { a, b, fee: 3 })
 }
 
@@ -99,7 +97,6 @@ fn mint(alloc: Global, tx: &mut Tx, names: &Names) -> Result<Answer, Fault>
     ensures sound { OnOk result (IsSound tx.new.present) }
 {
     let pool = names.pool;
-    let _ = pool.as_bytes();
     let step = Step::Mint {
         pool,
         to: Holder::User(names.alice),
@@ -140,7 +137,6 @@ fn first_step(names: &Names, syncs: bool) -> Step
     ensures { FitsMove (move_of_step result) }
 {
     let pool = names.pool;
-    let _ = pool.as_bytes();
     if syncs {
         return Step::Sync { pool };
     }
@@ -165,7 +161,6 @@ fn lend(alloc: Global, tx: &mut Tx, names: &Names, syncs: bool, n: u64) -> Resul
     requires amount { n ≤ AMOUNT_LIMIT }
 {
     let pool = names.pool;
-    let _ = pool.as_bytes();
     let steps = two_steps(alloc, first_step(names, syncs), pays_back(names, n))?;
     let step = Step::Flash {
         pool,

@@ -4,7 +4,8 @@ use Rattle.std.proofs.lemmas.Grind.{common_steps}
 use Rattle.amm_model.specs.declared.command.Step.{the_lemmas}
 use Rattle.amm_model.specs.CommandView.{moves_of_steps}
 use Rattle.amm_model.specs.Fits.{FitMoves}
-use Rattle.amm_script.proofs.Steps.{inner_fit, still_open, next_move, no_more_moves, first_fault, one_less, all_done, flash_opened, not_lent, not_run, not_returned, returned}
+use Rattle.amm_model.proofs.Laters.{later_then, later_same}
+use Rattle.amm_script.proofs.Steps.{inner_fit, still_open, next_move, no_more_moves, first_fault, one_less, all_done, flash_opened, not_lent, not_run, not_returned, returned, returned_later}
 use Rattle.amm_script.proofs.run.+script.Goals as goal
 
 pub run_steps-returns-in_err-run_step-clause-meets : goal.run_steps-returns-in_err-run_step-clause-meets
@@ -20,6 +21,7 @@ run_steps-loop-step-preserved t c =
       clean = accepted.mark;
       opening = accepted.opening ∙ c.loop-step.invariant.opening;
       sound = c.in_ok-run_step.ensures.sound;
+      later = later_then _ _ _ c.loop-step.invariant.later c.in_ok-run_step.ensures.later;
       fits = (subst FitMoves head c.loop-step.invariant.fits).1;
       left = one_less c.args.tx.now c.loop-step.tx _ _ _ _ _ head c.loop-step.invariant.left _ _ accepted;
     }
@@ -39,7 +41,7 @@ flash-returns-in_err-loan-clause-meets t c =
     rw (p.1, p.2, opened) (not_lent c.args.actor.now c.args.pool.now c.args.out0 c.args.out1 (moves_of_steps c.args.steps.now) c.args.tx.now c.open_loan.new.tx c.in_err-loan.field-0.0 c.in_err-loan.ensures.meets)
 
 pub flash-close_loan-requires-clause-open : goal.flash-close_loan-requires-clause-open
-flash-close_loan-requires-clause-open t c = still_open _ _ _ _ _ c.requires.fits c.in-Ok.ensures.meets.gives c.in_ok-loan.ensures.open
+flash-close_loan-requires-clause-open t c = still_open _ _ _ c.in-Ok.ensures.later c.in_ok-loan.ensures.open
 
 pub flash-returns-in_err-close_loan-in-Ok-clause-meets : goal.flash-returns-in_err-close_loan-in-Ok-clause-meets
 flash-returns-in_err-close_loan-in-Ok-clause-meets t c =
@@ -51,6 +53,10 @@ pub flash-returns-in_ok-close_loan-in-Ok-clause-meets : goal.flash-returns-in_ok
 flash-returns-in_ok-close_loan-in-Ok-clause-meets t c =
     let opened = (flash_opened c.args.tx.now.present c.args.actor.now c.args.pool.now c.args.out0 c.args.out1 (moves_of_steps c.args.steps.now)) in
     rw opened (returned c.args.actor.now c.args.pool.now c.args.out0 c.args.out1 (moves_of_steps c.args.steps.now) c.args.tx.now c.open_loan.new.tx _ c.in_ok-loan.ensures.meets c.run_steps.new.tx c.in-Ok.ensures.meets c.close_loan.new.tx _ c.in_ok-close_loan-in-Ok.ensures.meets)
+
+pub flash-returns-in_ok-close_loan-in-Ok-clause-later : goal.flash-returns-in_ok-close_loan-in-Ok-clause-later
+flash-returns-in_ok-close_loan-in-Ok-clause-later t c =
+    returned_later c.args.actor.now c.args.pool.now c.args.out0 c.args.out1 (moves_of_steps c.args.steps.now) c.args.tx.now c.open_loan.new.tx _ c.in_ok-loan.ensures.meets c.run_steps.new.tx c.in-Ok.ensures.meets c.close_loan.new.tx _ c.in-Ok.ensures.later c.in_ok-close_loan-in-Ok.ensures.meets
 
 pub flash-returns-in-Err-clause-meets : goal.flash-returns-in-Err-clause-meets
 flash-returns-in-Err-clause-meets t c =

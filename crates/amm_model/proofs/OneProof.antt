@@ -2,8 +2,7 @@
 use Rattle.std.specs.Prelude.{Bool, true, suc, length, slice_index_or, List, IsTrue}
 use Rattle.std.specs.List.{All}
 use Rattle.std.specs.Coded.{×_prop, Π_prop, →_prop, Unit-prop, le_prop, Coded-set, coded_bool, coded_ℕ}
-use Rattle.amm_names.specs.Names.{is_token_name}
-use Rattle.amm_names.specs.Pools.{is_pool_name, is_fee}
+use Rattle.amm_names.specs.Pools.{is_fee}
 use Rattle.amm_model.specs.declared.path.RoutePath.{RoutePath}
 use Rattle.amm_model.specs.declared.command.AddWant.{AddWant}
 use Rattle.amm_model.specs.declared.command.RemoveWant.{RemoveWant}
@@ -20,7 +19,6 @@ all_prop P one xs = Π_prop (λ k. Π_prop (λ d. →_prop (one (slice_index_or 
 
 path_prop : (path : RoutePath) → IsProp (IsPath path)
 path_prop path x y = λ i. record {
-  tokens = all_prop (λ token. IsTrue (is_token_name token)) (λ token. truth (is_token_name token)) path.tokens x.tokens y.tokens i;
   fees = all_prop IsFee (λ fee. truth (is_fee fee)) path.fees x.fees y.fees i;
   between = Coded-set coded_ℕ (suc (length path.fees)) (length path.tokens) x.between y.between i;
   least = le_prop x.least y.least i;
@@ -29,8 +27,6 @@ path_prop path x y = λ i. record {
 
 add_prop : (want : AddWant) → IsProp (FitsAdd want)
 add_prop want x y = λ i. record {
-  a = truth (is_token_name want.a) x.a y.a i;
-  b = truth (is_token_name want.b) x.b y.b i;
   fee = truth (is_fee want.fee) x.fee y.fee i;
   a_desired = le_prop x.a_desired y.a_desired i;
   b_desired = le_prop x.b_desired y.b_desired i;
@@ -40,8 +36,6 @@ add_prop want x y = λ i. record {
 
 remove_prop : (want : RemoveWant) → IsProp (FitsRemove want)
 remove_prop want x y = λ i. record {
-  a = truth (is_token_name want.a) x.a y.a i;
-  b = truth (is_token_name want.b) x.b y.b i;
   fee = truth (is_fee want.fee) x.fee y.fee i;
   shares = le_prop x.shares y.shares i;
   a_min = le_prop x.a_min y.a_min i;
@@ -51,13 +45,13 @@ remove_prop want x y = λ i. record {
 mutual
   pub move_prop : (m : Move) → IsProp (FitsMove m)
   move_prop (view.transfer asset to n) = le_prop
-  move_prop (view.create a b fee) = ×_prop (truth (is_token_name a)) (×_prop (truth (is_token_name b)) (truth (is_fee fee)))
-  move_prop (view.mint pool to) = truth (is_pool_name pool)
-  move_prop (view.burn pool to) = truth (is_pool_name pool)
-  move_prop (view.swap pool out0 out1 to) = ×_prop (truth (is_pool_name pool)) (×_prop le_prop le_prop)
-  move_prop (view.skim pool to) = truth (is_pool_name pool)
-  move_prop (view.sync pool) = truth (is_pool_name pool)
-  move_prop (view.flash pool out0 out1 steps) = ×_prop (truth (is_pool_name pool)) (×_prop le_prop (×_prop le_prop (moves_prop steps)))
+  move_prop (view.create a b fee) = truth (is_fee fee)
+  move_prop (view.mint pool to) = Unit-prop
+  move_prop (view.burn pool to) = Unit-prop
+  move_prop (view.swap pool out0 out1 to) = ×_prop le_prop le_prop
+  move_prop (view.skim pool to) = Unit-prop
+  move_prop (view.sync pool) = Unit-prop
+  move_prop (view.flash pool out0 out1 steps) = ×_prop le_prop (×_prop le_prop (moves_prop steps))
   move_prop (view.add want to deadline) = ×_prop (add_prop want) le_prop
   move_prop (view.remove want to deadline) = ×_prop (remove_prop want) le_prop
   move_prop (view.swap_in path x min to deadline) = ×_prop (path_prop path) (×_prop le_prop (×_prop le_prop le_prop))
