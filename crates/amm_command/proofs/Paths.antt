@@ -9,7 +9,7 @@ use Rattle.json.specs.Token as tokens
 use Rattle.serde_json.specs.Data.{Data, string, depth}
 use Rattle.serde_json.specs.View.{items_of}
 use Rattle.amm_names.specs.Pools.{is_fee}
-use Rattle.amm_names.specs.Spelling.{fee_cases}
+use Rattle.amm_names.proofs.Spelling.{fee_cases}
 use Rattle.amm_model.specs.declared.path.RoutePath.{RoutePath}
 use Rattle.amm_model.specs.Outcome.{◌>>=◌}
 use Rattle.amm_model.specs.Json.{whole, elements}

@@ -11,8 +11,8 @@ use Rattle.std.proofs.lemmas.Bool.{not-false, or_parts}
 use Rattle.std.proofs.lemmas.Cmp.{nat_list_cmp_total}
 use Rattle.std.proofs.lemmas.Map.Text.{is_eq-slice_cmp}
 use Rattle.amm_names.specs.Names.{is_token_name}
-use Rattle.amm_names.specs.Pools.{IsPool, is_before, pool_between, pool_spelling, pool_token0, pool_token1, is_fee}
-use Rattle.amm_names.specs.Spelling.{token0_of_spelling, token1_of_spelling}
+use Rattle.amm_names.specs.Pools.{is_before, pool_between, pool_spelling, pool_token0, pool_token1, is_fee}
+use Rattle.amm_names.proofs.Spelling.{IsPool, token0_of_spelling, token1_of_spelling}
 use Rattle.amm_model.specs.declared.fault.Refusal.TheVariants as code
 use Rattle.amm_model.specs.Ledger.{Ledger, Made, is_listed, pair_of, add_pair, zero_pair}
 use Rattle.amm_model.specs.Factory.{create}

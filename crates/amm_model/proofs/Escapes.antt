@@ -13,7 +13,7 @@ use Rattle.amm_model.specs.declared.fault.Refusal.TheVariants as refusals
 use Rattle.amm_model.specs.Refusals.{refusal_word}
 use Rattle.amm_names.specs.Names.{is_token_name}
 use Rattle.amm_names.specs.Pools.{is_pool_name, pool_spelling, fee_spelling, pool_token0, pool_token1, pool_fee, is_fee}
-use Rattle.amm_names.specs.Spelling.{is_token_byte, token_bytes, fee_cases, parts_are_pool, parts_spell}
+use Rattle.amm_names.proofs.Spelling.{is_token_byte, token_bytes, fee_cases, parts_are_pool, parts_spell}
 
 escape-append : (xs ys : List ℕ) → escape (xs ++ ys) ≡ escape xs ++ escape ys
 escape-append xs ys = flat_map-append escape_byte xs ys

@@ -9,6 +9,7 @@ use Rattle.amm_names.specs.declared.holder.Holder.{Holder}
 use Rattle.amm_names.specs.declared.holder.Asset.{Asset}
 use Rattle.amm_names.specs.Order.{holder_cmp, asset_cmp, same_holder, same_asset}
 use Rattle.amm_model.specs.Ledger.{Holdings, HoldingsByAsset, Ledger, amount, set_amount, sum_held, holdings_of, set_holdings, balance, total, set_balance, done, transfer}
+use Rattle.amm_model.specs.Tidy.{IsTidy, IsTidyByAsset}
 use Rattle.amm_names.proofs.OrderLemmas.{holder_total, holder_antisymmetric, asset_total, asset_antisymmetric}
 use Rattle.amm_model.proofs.FinSum.{in_all, sum-insert, sum-remove, value_at_most_sum}
 
@@ -52,10 +53,6 @@ sum_held-empty =
     let none : fin.entries m ≡ [] = nil_from_length (fin.entries m) (sym (fin.len-entries m) ∙ fin.len-empty holder_cmp ℕ) in
     rw none
 
--- no row says 0
-abbrev pub IsTidy : Holdings → Type 0
-IsTidy held = (q : Holder) → fin.get held q ≡ cond (amount held q == 0) None (Some (amount held q))
-
 pub IsTidy-empty : IsTidy fin.empty
 IsTidy-empty q = rw (amount-empty q) (fin.get-empty holder_cmp q)
 
@@ -74,10 +71,6 @@ same_held a b s t is = fin.same_map holder_total holder_antisymmetric a b (λ q.
 pub holdings_of-empty : (q : Asset) → holdings_of fin.empty q ≡ fin.empty
 unfolding holdings_of
 holdings_of-empty q = rw (fin.get-empty asset_cmp q)
-
--- no asset is listed of which nobody has any
-abbrev pub IsTidyByAsset : HoldingsByAsset → Type 0
-IsTidyByAsset all = (q : Asset) → fin.get all q ≡ cond (fin.len (holdings_of all q) == 0) None (Some (holdings_of all q))
 
 pub IsTidyByAsset-empty : IsTidyByAsset fin.empty
 IsTidyByAsset-empty q = rw (holdings_of-empty q, fin.len-empty holder_cmp ℕ) (fin.get-empty asset_cmp q)

@@ -5,8 +5,8 @@ use Rattle.std.specs.List.{position, position_or_len, before_first, after_first}
 use Rattle.std.proofs.lemmas.Bool.{eqb-true}
 use Rattle.std.proofs.lemmas.Bool.Decides.{nat_tests}
 use Rattle.std.proofs.lemmas.List.Sums.{split_at_first, passes_at_first}
-use Rattle.amm_names.specs.Pools.{IsPool, is_fee, fee_spelling, pool_spelling, is_pool_name, pool_token1, pool_token0, pool_fee}
-use Rattle.amm_names.specs.Spelling.{tail_of_spelling, parts_are_pool, parts_spell, spelling_names_pool}
+use Rattle.amm_names.specs.Pools.{is_fee, fee_spelling, pool_spelling, is_pool_name, pool_token1, pool_token0, pool_fee}
+use Rattle.amm_names.proofs.Spelling.{IsPool, tail_of_spelling, parts_are_pool, parts_spell, spelling_names_pool}
 
 placed : (first long at : ℕ) → cond (nat_lt first long) (Some first) None ≡ Some at → (first ≡ at) × (first < long)
 placed first long at is = by (nat_lt first long) refl is

@@ -22,12 +22,6 @@ fee_spelling fee = if fee == 1 then codes ":1" else (if fee == 10 then codes ":1
 abbrev pub pool_spelling : List ℕ → List ℕ → ℕ → List ℕ
 pool_spelling token0 token1 fee = token0 ++ 47 ∷ (token1 ++ fee_spelling fee)
 
-pub record IsPool (token0 token1 : List ℕ) (fee : ℕ) : Type 0 where
-  pub first : IsTrue (is_token_name token0)
-  pub second : IsTrue (is_token_name token1)
-  pub ascending : IsTrue (is_before token0 token1)
-  pub at_a_fee : IsTrue (is_fee fee)
-
 -- the pool of two tokens in either order; one token has none
 unfoldable pub pool_between : List ℕ → List ℕ → ℕ → Option (List ℕ)
 pool_between a b fee = if bytes_eq a b then None else Some (if is_before a b then pool_spelling a b fee else pool_spelling b a fee)

@@ -3,7 +3,7 @@ use Rattle.std.proofs.Common.{◌≡◌, ◌≢◌, true, List, ℕ, sym, ap, �
 use Rattle.std.specs.Prelude.{IsTrue}
 use Rattle.std.proofs.lemmas.Cmp.{tied_itself, nat_list_cmp_total}
 use Rattle.amm_names.specs.Pools.{is_pool_name, is_before, pool_token0, pool_token1}
-use Rattle.amm_names.specs.Spelling.{parts_are_pool}
+use Rattle.amm_names.proofs.Spelling.{parts_are_pool}
 
 not_before_itself : (x : List ℕ) → is_before x x ≡ true → ⊥
 not_before_itself x before = let tied = tied_itself nat_list_cmp_total x in cc

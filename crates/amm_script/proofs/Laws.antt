@@ -86,7 +86,7 @@ mutual
 -- ---- what is promised of the ledger after an accepted call, where no name has to be one
 
 module _ (old new : Progress) where
-  made_by : {A : Type 0} → A → Made A
+  abbrev made_by : {A : Type 0} → A → Made A
   made_by answer = record { ledger = new.present; answer = answer }
 
   pub transfer_later : (actor : List ℕ) (asset : Asset) (to : Holder) (n : ℕ) (answer : Result Answer Fault) → Meets old new answer (send old.present actor asset to n) → OnOk answer (Later old.present new.present)

@@ -11,7 +11,8 @@ use Rattle.amm_names.specs.contracts.holder.AssetPartialEq.TheImpl as asset_is
 use Rattle.amm_names.specs.Order.{asset_cmp, same_asset}
 use Rattle.amm_model.specs.Ledger.{Holdings, HoldingsByAsset, amount, holdings_of, set_holdings}
 use Rattle.amm_names.proofs.OrderLemmas.{asset_equal, asset_eq, asset_total, asset_antisymmetric}
-use Rattle.amm_model.proofs.LedgerLemmas.{holdings_of-empty, holdings_of-set_holdings, IsTidyByAsset, IsTidyByAsset-empty, IsTidyByAsset-set_holdings, same_holdings, holdings_of-set_here, same_asset_itself}
+use Rattle.amm_model.specs.Tidy.{IsTidyByAsset}
+use Rattle.amm_model.proofs.LedgerLemmas.{holdings_of-empty, holdings_of-set_holdings, IsTidyByAsset-empty, IsTidyByAsset-set_holdings, same_holdings, holdings_of-set_here, same_asset_itself}
 use Rattle.amm_state.specs.Rows.{Holders, AssetTable, empty_table, with_row}
 use Rattle.amm_state.proofs.RowLemmas.{read_first}
 use Rattle.amm_state.specs.Assets.{Rows, Tables, holders_at, holdings_in, rows_in, tables_of, table_at, with_table, with_amount}

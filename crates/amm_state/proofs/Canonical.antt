@@ -6,7 +6,8 @@ use Rattle.amm_names.specs.declared.holder.Asset.{Asset}
 use Rattle.amm_names.specs.Order.{same_holder, same_asset}
 use Rattle.amm_model.specs.Ledger.{Holdings, HoldingsByAsset, Ledger, amount, set_amount, holdings_of, set_holdings, balance, set_balance, done, added, taken, moved, transfer, opening_ledger, with_setter}
 use Rattle.amm_model.proofs.Names.{same_holder_is, same_asset_is}
-use Rattle.amm_model.proofs.LedgerLemmas.{IsTidy, IsTidy-empty, IsTidy-set_amount, IsTidyByAsset, IsTidyByAsset-empty, IsTidyByAsset-set_holdings, holdings_of-empty, same_held, same_holdings, amount-set_amount, holdings_of-set_holdings}
+use Rattle.amm_model.specs.Tidy.{IsTidy, IsTidyByAsset}
+use Rattle.amm_model.proofs.LedgerLemmas.{IsTidy-empty, IsTidy-set_amount, IsTidyByAsset-empty, IsTidyByAsset-set_holdings, holdings_of-empty, same_held, same_holdings, amount-set_amount, holdings_of-set_holdings}
 use Rattle.amm_state.specs.Journal.{IsCanonical}
 
 pub canonical-set_balance : (l : Ledger) (a : Asset) (h : Holder) (n : ℕ) → IsCanonical l → IsCanonical (set_balance l a h n)

@@ -8,7 +8,8 @@ use Rattle.amm_names.specs.contracts.holder.HolderPartialEq.TheImpl as holder_is
 use Rattle.amm_names.specs.Order.{same_holder}
 use Rattle.amm_model.specs.Ledger.{amount, set_amount, sum_held}
 use Rattle.amm_names.proofs.OrderLemmas.{holder_eq, holder_total}
-use Rattle.amm_model.proofs.LedgerLemmas.{amount-set_amount, amount-empty, IsTidy, IsTidy-empty, IsTidy-set_amount, same_held, sum_held-set_amount}
+use Rattle.amm_model.specs.Tidy.{IsTidy}
+use Rattle.amm_model.proofs.LedgerLemmas.{amount-set_amount, amount-empty, IsTidy-empty, IsTidy-set_amount, same_held, sum_held-set_amount}
 use Rattle.std.specs.FinSet as set
 use Rattle.amm_names.specs.Order.{holder_cmp}
 use Rattle.amm_names.proofs.OrderLemmas.{holder_antisymmetric}

@@ -2,7 +2,7 @@
 use Rattle.std.specs.Prelude.{ℕ, ◌+◌, ◌-◌, ◌≤◌, List, [], ◌∷◌, take, length, IsTrue, refl}
 use Rattle.amm_model.specs.Ledger.{Ledger, holdings_of, balance, total, set_balance, set_pair, with_fee_to, with_setter}
 use Rattle.amm_model.specs.declared.limits.TheConstants.{AMOUNT_LIMIT}
-use Rattle.amm_model.proofs.LedgerLemmas.{IsTidy, IsTidyByAsset}
+use Rattle.amm_model.specs.Tidy.{IsTidy, IsTidyByAsset}
 use Rattle.amm_state.specs.declared.journal.Undo.{Undo}
 use Rattle.amm_state.specs.declared.journal.Undo.TheVariants.{Balance, Token, NewPair, Pair, FeeTo, Setter, Time}
 use Rattle.amm_names.specs.declared.holder.Asset.{Asset}

@@ -22,19 +22,18 @@ pub struct PoolName {
 }
 
 impl Model for PoolName {
-    ghost use Rattle.std.specs.Prelude.{◌≡◌, List, ℕ};
-    ghost use Rattle.amm_names.specs.Pools.{IsPool, pool_spelling, pool_token0, pool_token1, pool_fee};
-    ghost use Rattle.amm_names.specs.Spelling.{parts_fit};
+    ghost use Rattle.std.specs.Prelude.{◌≡◌, List, ℕ, IsTrue};
+    ghost use Rattle.amm_names.specs.Pools.{is_pool_name, pool_token0, pool_token1, pool_fee};
 
     ghost Value = { List ℕ };
 
     ghost view = { λ name. name.text };
 
-    ghost invariant = { λ name. IsPool name.token0 name.token1 name.fee × (name.text ≡ pool_spelling name.token0 name.token1 name.fee) };
+    ghost invariant = { λ name. IsTrue (is_pool_name name.text) × ((pool_token0 name.text ≡ name.token0) × ((pool_token1 name.text ≡ name.token1) × (pool_fee name.text ≡ name.fee))) };
 
     ghost inverse = { λ bytes. record { token0 = pool_token0 bytes; token1 = pool_token1 bytes; fee = pool_fee bytes; text = bytes } };
 
-    ghost inverse_ok = { λ name spelled. parts_fit name.token0 name.token1 name.fee name.text spelled.0 spelled.1 (λ token0 token1 fee. record { token0 = token0; token1 = token1; fee = fee; text = name.text }) };
+    ghost inverse_ok = { λ name parts i. record { token0 = parts.1.0 i; token1 = parts.1.1.0 i; fee = parts.1.1.1 i; text = name.text } };
 }
 
 /// Where the first such byte stands.

@@ -15,7 +15,7 @@ pub struct Text<const N: usize> {
 
 impl<const N: usize> Model for Text<N> {
     ghost use Rattle.std.specs.Prelude.{List, ℕ, ◌-◌, ◌++◌, length, take};
-    ghost use Rattle.amm_names.specs.Padded.{IsPadded, padded, padded_fits};
+    ghost use Rattle.amm_names.specs.Padded.{IsPadded, padded};
 
     ghost Value = { List ℕ };
 
@@ -25,7 +25,7 @@ impl<const N: usize> Model for Text<N> {
 
     ghost inverse = { λ bytes. record { bytes = padded N bytes; len = length bytes } };
 
-    ghost inverse_ok = { λ text fits. padded_fits N text.len text.bytes fits (λ bytes len. record { bytes = bytes; len = len }) };
+    ghost inverse_ok = { λ text fits i. record { bytes = fits.zeros i; len = fits.full i } };
 }
 
 /// Writes the bytes into the field, beginning at a place.

@@ -6,6 +6,7 @@ use Rattle.amm_model.specs.CommandView.{moves_of_steps}
 use Rattle.amm_model.specs.Fits.{FitMoves}
 use Rattle.amm_model.proofs.Laters.{later_then, later_same}
 use Rattle.amm_script.proofs.Steps.{inner_fit, still_open, next_move, no_more_moves, first_fault, one_less, all_done, flash_opened, not_lent, not_run, not_returned, returned, returned_later}
+use Rattle.amm_script.proofs.Laws.{mint_later, swap_later, swap_in_later, swap_out_later}
 use Rattle.amm_script.proofs.run.+script.Goals as goal
 
 pub run_steps-returns-in_err-run_step-clause-meets : goal.run_steps-returns-in_err-run_step-clause-meets
@@ -66,3 +67,21 @@ flash-returns-in-Err-clause-meets t c =
 pub run_step-flash-requires : goal.run_step-flash-requires
 run_step-flash-requires t c =
     (grind (arith, common_steps, the_lemmas, c.in-Flash.is, c.deref.ensures.value), (c.requires.clean, (c.requires.sound, inner_fit c.args.step.now _ _ _ c.in-Flash.steps _ c.deref.ensures.value c.in-Flash.is c.requires.fits)))
+
+pub run_step-returns-in_ok-mint-in-Mint-clause-later :
+    goal.run_step-returns-in_ok-mint-in-Mint-clause-later
+run_step-returns-in_ok-mint-in-Mint-clause-later t c = mint_later c.args.tx.now c.mint.new.tx _ _ _ c.in_ok-mint-in-Mint.ensures.meets
+
+pub run_step-returns-in_ok-swap-in-Swap-clause-later :
+    goal.run_step-returns-in_ok-swap-in-Swap-clause-later
+run_step-returns-in_ok-swap-in-Swap-clause-later t c = swap_later c.args.tx.now c.swap.new.tx _ _ _ _ _ c.in_ok-swap-in-Swap.ensures.meets
+
+pub run_step-returns-in_ok-swap_exact_in-in-SwapIn-clause-later :
+    goal.run_step-returns-in_ok-swap_exact_in-in-SwapIn-clause-later
+run_step-returns-in_ok-swap_exact_in-in-SwapIn-clause-later t c =
+    swap_in_later c.args.tx.now c.swap_exact_in.new.tx _ _ _ _ _ _ _ c.in_ok-swap_exact_in-in-SwapIn.ensures.meets
+
+pub run_step-returns-in_ok-swap_exact_out-in-SwapOut-clause-later :
+    goal.run_step-returns-in_ok-swap_exact_out-in-SwapOut-clause-later
+run_step-returns-in_ok-swap_exact_out-in-SwapOut-clause-later t c =
+    swap_out_later c.args.tx.now c.swap_exact_out.new.tx _ _ _ _ _ _ _ c.in_ok-swap_exact_out-in-SwapOut.ensures.meets

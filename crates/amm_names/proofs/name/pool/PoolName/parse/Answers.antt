@@ -1,6 +1,7 @@
 use Rattle.std.proofs.Common.{arith, rules, refl, ◌≡◌}
 use Rattle.std.proofs.lemmas.Grind.{common_steps}
-use Rattle.amm_names.specs.Pools.{IsPool, pool_spelling}
+use Rattle.amm_names.specs.Pools.{pool_spelling}
+use Rattle.amm_names.proofs.Spelling.{IsPool}
 use Rattle.amm_names.proofs.Parsing.{no_fee, is_name}
 use Rattle.amm_names.proofs.name.pool.PoolName.parse.Goals as goal
 

@@ -11,7 +11,14 @@ use Rattle.std.proofs.Math.Nat.{le-add_right}
 use Rattle.std.proofs.lemmas.Slice.Eq.{bytes_eq-Decides}
 use Rattle.std.specs.Str.{bytes_eq}
 use Rattle.amm_names.specs.Names.{is_upper, is_digit, is_token_name}
-use Rattle.amm_names.specs.Pools.{IsPool, pool_spelling, fee_spelling, fee_of_digits, is_before, is_pool_name, pool_token0, pool_token1, pool_fee, is_fee}
+use Rattle.amm_names.specs.Pools.{pool_spelling, fee_spelling, fee_of_digits, is_before, is_pool_name, pool_token0, pool_token1, pool_fee, is_fee}
+
+-- what a pool is made of
+pub record IsPool (token0 token1 : List ℕ) (fee : ℕ) : Type 0 where
+  pub first : IsTrue (is_token_name token0)
+  pub second : IsTrue (is_token_name token1)
+  pub ascending : IsTrue (is_before token0 token1)
+  pub at_a_fee : IsTrue (is_fee fee)
 
 -- a byte of a token is neither a slash nor a colon
 abbrev pub is_token_byte : ℕ → Bool
@@ -128,7 +135,3 @@ module _ (bytes : List ℕ) (name : IsTrue (is_pool_name bytes)) where
       let behind = second_so (is_token_name (pool_token0 bytes)) _ name in
       let last = second_so (is_before (pool_token0 bytes) (pool_token1 bytes)) _ (second_so (is_token_name (pool_token1 bytes)) _ behind) in
       (bytes_eq-Decides bytes (pool_spelling (pool_token0 bytes) (pool_token1 bytes) (pool_fee bytes))).0 last
-
--- whatever is made of a name's parts is made of those of its spelling
-pub parts_fit : {X : Type 0} (a b : List ℕ) (fee : ℕ) (text : List ℕ) → IsPool a b fee → text ≡ pool_spelling a b fee → (make : List ℕ → List ℕ → ℕ → X) → make (pool_token0 text) (pool_token1 text) (pool_fee text) ≡ make a b fee
-parts_fit a b fee text pool is make = rw (is, token0_of_spelling a b fee pool, token1_of_spelling a b fee pool, fee_of_spelling a b fee pool) refl
