@@ -29,6 +29,12 @@ pub mod Paths
 pub mod Values
 pub mod Bound
 pub mod Settled
+pub mod Market
+pub mod Spreads
+pub mod SplitAnswers
+pub mod Settlement
+pub mod Baskets
+pub mod Cycles
 pub mod Certificate
 -- Words of the proofs: what is known of a command that was read, of a later ledger, of a ledger's
 -- tables, and of ledgers as values. No promise to users speaks of them.

@@ -1,0 +1,40 @@
+-- What a plan for a basket of several parts has to deliver at least.
+use Rattle.std.specs.Prelude.{ℕ, ◌≡◌, ◌+◌, ◌<◌, ◌≤◌, ◌⊎◌, ◌++◌, List, [], ◌∷◌, Contains}
+use Rattle.amm_model.specs.Routing.{Name, OpenView}
+use Rattle.amm_model.specs.declared.problem.Part.{Part}
+use Rattle.amm_model.specs.declared.problem.ProblemPool.{ProblemPool}
+use Rattle.amm_model.specs.declared.route.Hop.{Hop}
+use Rattle.amm_model.specs.Paths.{IsPath, ComesBefore, AreApart, hop_places, gives}
+use Rattle.amm_model.specs.Values.{IsOneOrTwoWayValue}
+
+-- A path that gives something on the whole part, over pools that no part before has.
+pub record IsWayOfPart (pools : List ProblemPool) (t : Name) (used : List ℕ) (part : Part) (path : List Hop) : Type 0 where
+  pub path_of : IsPath pools part.token t path
+  pub apart : AreApart (hop_places path) used
+  pub some : 1 ≤ gives pools path part.amount
+
+-- The one that gives most; among equals the one that comes first.
+pub record IsBestWay (pools : List ProblemPool) (t : Name) (used : List ℕ) (part : Part) (path : List Hop) : Type 0 where
+  pub way : IsWayOfPart pools t used part path
+  pub best : (other : List Hop) → IsWayOfPart pools t used part other →
+      (gives pools other part.amount < gives pools path part.amount)
+      ⊎ ((gives pools other part.amount ≡ gives pools path part.amount) × (ComesBefore (hop_places path) (hop_places other) ⊎ (path ≡ other)))
+
+-- The parts one after the other, each whole on its best way; a part without a way brings nothing.
+abbrev pub IsSequentialValue : List ProblemPool → (t : Name) → (used : List ℕ) → List Part → (value : ℕ) → Type 0
+IsSequentialValue pools t used [] value = value ≡ 0
+IsSequentialValue pools t used (part ∷ parts) value =
+    (((path : List Hop) → IsWayOfPart pools t used part path → ⊥) × IsSequentialValue pools t used parts value)
+    ⊎ ((path : List Hop) × (rest : ℕ) × IsBestWay pools t used part path
+      × IsSequentialValue pools t (used ++ hop_places path) parts rest × (value ≡ gives pools path part.amount + rest))
+
+-- A one-way or two-way value of one of the parts.
+pub record IsValueOfPart (problem : OpenView) (value : ℕ) : Type 0 where
+  pub part : Part
+  pub is_part : Contains problem.parts part
+  pub given : IsOneOrTwoWayValue problem.pools part.token problem.t part.amount value
+
+-- At least the sequential value and every one-way and two-way value of a part.
+pub record AtLeastPartValues (problem : OpenView) (amount : ℕ) : Type 0 where
+  pub sequential : (value : ℕ) → IsSequentialValue problem.pools problem.t [] problem.parts value → value ≤ amount
+  pub parts : (value : ℕ) → IsValueOfPart problem value → value ≤ amount

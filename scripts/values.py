@@ -1,0 +1,234 @@
+#!/usr/bin/env python3
+"""The values that a routed answer is measured by, from their definitions and nothing else.
+
+Goes through all lists of pools, all pairs of paths and all shares of small problems, one after the
+other as the definitions of amm_model/specs (Paths, Values, Spreads, Baskets, Cycles, Bound) say,
+with exact integers, and compares with values that were worked out by hand. It shares no code with
+the engine. Exits with 1 where a value differs.
+"""
+
+import itertools
+import sys
+from math import isqrt
+
+WIDTH = 1 << 48  # reserves and balances that a pool can take are below this
+
+
+class Pool:
+    """A pool of a problem: its two tokens in byte order, its fee in thousandths, its reserves.
+
+    What it has is here the same as its reserves.
+    """
+
+    def __init__(self, tokens, r0, r1, fee=3):
+        self.tokens, self.reserves, self.fee = tokens, (r0, r1), fee
+
+    def pays(self, zero_in, x):
+        """What the pool pays for x of its token 0 or 1; 0 where it has no room for x."""
+        rin, rout = self.reserves if zero_in else self.reserves[::-1]
+        if rin + x >= WIDTH:
+            return 0
+        weight = 1000 - self.fee
+        return weight * x * rout // (1000 * rin + weight * x)
+
+
+def hops(pools):
+    return [(place, zero_in) for place in range(len(pools)) for zero_in in (True, False)]
+
+
+def token_in(pools, hop):
+    return pools[hop[0]].tokens[0 if hop[1] else 1]
+
+
+def token_out(pools, hop):
+    return pools[hop[0]].tokens[1 if hop[1] else 0]
+
+
+def leads(pools, first, path, last):
+    for hop in path:
+        if token_in(pools, hop) != first:
+            return False
+        first = token_out(pools, hop)
+    return first == last
+
+
+def are_different(items):
+    return len(set(items)) == len(items)
+
+
+def is_path(pools, source, target, path):
+    tokens = [source] + [token_out(pools, hop) for hop in path]
+    return (
+        are_different([place for place, _ in path])
+        and leads(pools, source, path, target)
+        and are_different(tokens)
+    )
+
+
+def paths(pools, source, target):
+    """All paths of one to three pools, in the order of their places."""
+    found = [
+        path
+        for length in (1, 2, 3)
+        for path in itertools.product(hops(pools), repeat=length)
+        if is_path(pools, source, target, path)
+    ]
+    return sorted(found, key=places)
+
+
+def places(path):
+    return [place for place, _ in path]
+
+
+def are_apart(path, used):
+    return not set(places(path)) & set(used)
+
+
+def gives(pools, path, x):
+    for place, zero_in in path:
+        x = pools[place].pays(zero_in, x)
+    return x
+
+
+def one_way_values(pools, source, target, d):
+    for path in paths(pools, source, target):
+        for k in range(1, 17):
+            if value := gives(pools, path, d * k // 16):
+                yield value
+
+
+def two_way_values(pools, source, target, d):
+    ways = paths(pools, source, target)
+    for first, second in itertools.product(ways, ways):
+        for k in range(1, 16):
+            part = d * k // 16
+            if are_apart(first, places(second)):
+                a, b = gives(pools, first, part), gives(pools, second, d - part)
+                if a and b:
+                    yield a + b
+
+
+def spread_value(pools, source, target, d, sizes, price_in, price_out):
+    """The sum of what the shares give, taken one after the other by their gain; None where none is."""
+    left, used, total, taken = 16, [], 0, False
+    while True:
+        best = None
+        for path in paths(pools, source, target):
+            for k in sizes:
+                gain = price_out * gives(pools, path, d * k // 16) - price_in * (d * k // 16)
+                if k <= left and are_apart(path, used) and gain > 0:
+                    key = (-gain, places(path), k)
+                    best = min(best, (key, path, k), key=lambda e: e[0]) if best else (key, path, k)
+        if best is None:
+            return total if taken else None
+        _, path, k = best
+        left, used, taken = left - k, used + places(path), True
+        total += gives(pools, path, d * k // 16)
+
+
+def equal_spread(pools, source, target, d, count):
+    return spread_value(pools, source, target, d, [16 // count], 0, 1)
+
+
+def sequential_value(pools, parts, target):
+    used, total = [], 0
+    for token, amount in parts:
+        ways = [
+            path
+            for path in paths(pools, token, target)
+            if are_apart(path, used) and gives(pools, path, amount)
+        ]
+        if ways:
+            best = min(ways, key=lambda path: (-gives(pools, path, amount), places(path)))
+            used, total = used + places(best), total + gives(pools, best, amount)
+    return total
+
+
+def cycle_values(pools, target):
+    for length in (2, 3, 4):
+        for cycle in itertools.product(hops(pools), repeat=length):
+            given = [token_out(pools, hop) for hop in cycle]
+            if (
+                are_different(places(cycle))
+                and leads(pools, target, cycle, target)
+                and are_different(given)
+            ):
+                for e in range(52):
+                    if gives(pools, cycle, 2**e) > 2**e:
+                        yield gives(pools, cycle, 2**e) - 2**e
+
+
+def worth(pool, p0, p1):
+    (r0, r1), weight = pool.reserves, 1000 - pool.fee
+    for a, b in ((1000 * p0 * r0, weight * p1 * r1), (1000 * p1 * r1, weight * p0 * r0)):
+        if b > a:
+            mean = isqrt(a << 30) * isqrt(b << 30) >> 29
+            return (a + b - mean) // weight
+    return 0
+
+
+def bound(pools, parts, target, prices):
+    value = sum(prices[token] * amount for token, amount in parts)
+    value += sum(worth(pool, *(prices[token] for token in pool.tokens)) for pool in pools)
+    return value // prices[target]
+
+
+MILLION = 10**6
+
+
+def even(*pairs):
+    """Pools of a million on each side."""
+    return [Pool(pair, MILLION, MILLION) for pair in pairs]
+
+
+def cases():
+    """What, the value, and the value by hand."""
+    triangle = even("AM", "AT", "MT")
+    # One path gives floor(997*100000*10^6/(10^9+997*100000)) = 90661 directly. Eleven sixteenths,
+    # 68750, give 64146 there, and 31250 give 30214 and then 29242 by way of M.
+    yield "triangle, best one way", max(one_way_values(triangle, "A", "T", 100000)), 90661
+    yield "triangle, best two ways", max(two_way_values(triangle, "A", "T", 100000)), 64146 + 29242
+    # A bound at the prices 1 and 2 is (100000 + 170329) / 2, at equal prices what is given.
+    direct = even("AT")
+    yield "bound, prices 1 and 2", bound(direct, [("A", 100000)], "T", {"A": 1, "T": 2}), 135164
+    yield "bound, prices 1 and 1", bound(direct, [("A", 100000)], "T", {"A": 1, "T": 1}), 100000
+    # A fourth of 400000 gives 90661 in the first pool of each way and 82896 in its second. Two
+    # halves give 166249 and then 142183 each.
+    middles = ["A1", "A2", "A3", "A4", "1T", "2T", "3T", "4T"]
+    ways = even(*middles)
+    yield "four ways, equal shares", equal_spread(ways, "A", "T", 400000, 4), 4 * 82896
+    yield "four ways, best two ways", max(two_way_values(ways, "A", "T", 400000)), 2 * 142183
+    # At the prices 855, 900, 900, 1000 half goes directly and gives 73868, and a fourth goes each
+    # by M and by N and gives 36826. Without prices a half goes directly, where it gives most, and
+    # then a half by M: 73868 + 68594; two ways do best with eleven sixteenths directly, 98831, and
+    # five by M, 50000 to 47482 to 45199.
+    web = even("AM", "AN", "AT", "MT", "NT")
+    priced = spread_value(web, "A", "T", 160000, range(1, 17), 855, 1000)
+    plain = max(equal_spread(web, "A", "T", 160000, count) for count in (2, 4, 8))
+    yield "shares at prices", priced, 73868 + 2 * 36826
+    yield "equal shares", plain, 73868 + 68594
+    yield "two ways", max(two_way_values(web, "A", "T", 160000)), 98831 + 45199
+    # Each of two parts gives 90661 in a pool of its own.
+    both = even("AT", "BT")
+    parts = [("A", 100000), ("B", 100000)]
+    yield "basket, one after the other", sequential_value(both, parts, "T"), 2 * 90661
+    yield "basket, a part alone", max(one_way_values(both, "B", "T", 100000)), 90661
+    # 262144 U give floor(997*262144*10^6/(4*10^9+997*262144)) = 61331 E in the pool of fee 3, and
+    # these give floor(999*61331*5*10^6/(10^9+999*61331)) = 288662 U in the other.
+    unequal = [Pool("EU", MILLION, 4 * MILLION), Pool("EU", MILLION, 5 * MILLION, fee=1)]
+    yield "cycle, best power of two", max(cycle_values(unequal, "U")), 288662 - 262144
+    yield "cycle, none in one pool", sum(1 for _ in cycle_values(unequal[:1], "U")), 0
+
+
+def main():
+    wrong = 0
+    for what, value, by_hand in cases():
+        if value != by_hand:
+            wrong += 1
+            print(f"{what}: {value}, by hand {by_hand}")
+    print(f"values: {wrong} differ" if wrong else "values: as worked out by hand")
+    return 1 if wrong else 0
+
+
+if __name__ == "__main__":
+    sys.exit(main())
