@@ -25,7 +25,7 @@ GROUPS = [
     ("amm_names: names read, compared, joined", r"^amm_names"),
     ("amm_state, indexmap: rows looked up and changed", r"^(amm_state|indexmap)"),
     ("amm_pair, amm_path, amm_script, amm_pool: the rules", r"^(amm_pair|amm_path|amm_script|amm_pool|amm_num|amm_factory|__udivti3)"),
-    ("amm_reply, amm_cert: the reply's text", r"^(amm_reply|amm_cert|itoa|amm_engine::line::write_reply)"),
+    ("amm_reply, amm_cert: the reply's text", r"^(amm_reply|amm_cert|amm_text|itoa|amm_engine::line::write_reply)"),
     ("amm_engine, exchange: a line taken, a transaction begun and ended, the rest put into them", r"^(amm_engine|exchange|memchr|amm_io)"),
     ("memory taken and given back", r"(malloc|free|realloc|rattle_alloc|rattle_dealloc|unlink_chunk|grow_amortized)"),
     ("memory copied", r"(memcpy|memmove|memset)"),

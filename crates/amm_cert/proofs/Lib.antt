@@ -1,4 +1,3 @@
-pub mod Joined
 pub mod Values
 pub mod Wide
 pub mod Prices

@@ -1,4 +1,3 @@
-pub mod Texts
 pub mod Rows
 pub mod Finds
 pub mod Plain

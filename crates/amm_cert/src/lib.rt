@@ -1,9 +1,13 @@
-//! Certificates as text: the compact JSON of a quote, written as exactly what its value is.
+//! Certificates: a quote as JSON, from which anybody can check it.
+//!
+//! `write` gives the compact text of a quote. `read` gives the quote of which some bytes are a
+//! certificate, and None exactly where they are a certificate of none: the JSON value of the bytes
+//! must be that of the quote, in a version that fits its pools. So what was written is read back as
+//! the same quote. Nothing here asks whether a quote is right: that is the work of `amm_check`.
 #![tactic(auto)]
 
 mod form;
 pub mod law;
-pub mod piece;
 pub mod quote;
 mod reader;
 mod row;

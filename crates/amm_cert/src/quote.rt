@@ -7,9 +7,9 @@ ghost use Rattle.amm_model.specs.Json.{whole, list};
 ghost use Rattle.amm_model.specs.Certificate.{pool_value, price_value, leg_value};
 ghost use Rattle.amm_model.specs.Routing.{token0_of, token1_of};
 ghost use Rattle.amm_model.specs.declared.route.Leg as legs_view;
-ghost use Rattle.amm_cert.specs.Texts.{next_text, joined_text};
+ghost use Rattle.amm_text.specs.Texts.{next_text, joined_text};
 
-use crate::piece::{push_number, push_token, put_comma, put_pool, put_token};
+use amm_text::{push_number, push_token, put_comma, put_pool, put_token};
 use amm_model::{Leg, Memory, ProblemPool, TokenName};
 
 fn put_problem_pool(text: &mut Vec<u8>, pool: &ProblemPool) -> Result<(), Memory>

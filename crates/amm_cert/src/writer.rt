@@ -3,7 +3,7 @@ ghost use Rattle.std.specs.Prelude.{◌≡◌, ◌++◌, IfOk, OnOk};
 ghost use Rattle.serde_json.specs.Written.{compact_text};
 ghost use Rattle.amm_model.specs.Certificate.{certificate_value, certificate_text, IsCertifiable, IsCertificateOf, IsWritable};
 
-use crate::piece::{push_number, push_token, push_wide};
+use amm_text::{push_number, push_token, push_wide};
 use crate::quote::{push_legs, push_pools, push_prices};
 use amm_model::{Memory, Quote};
 use std::alloc::Global;

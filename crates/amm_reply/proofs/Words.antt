@@ -3,7 +3,7 @@ use Rattle.std.proofs.Common.{◌≡◌, refl}
 use Rattle.std.specs.Prelude.{codes}
 use Rattle.json.specs.Print.{escape_byte}
 use Rattle.serde_json.specs.Data.{string}
-use Rattle.amm_cert.specs.Texts.{next_text}
+use Rattle.amm_text.specs.Texts.{next_text}
 
 pub ok_text : codes ",\"ok\"" ≡ next_text (string (codes "ok"))
 unfolding escape_byte

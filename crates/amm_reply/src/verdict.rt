@@ -5,12 +5,12 @@ ghost use Rattle.amm_model.specs.Json.{whole, wide, list};
 ghost use Rattle.amm_model.specs.Certificate.{IsWritable, prices_value, legs_value, certificate_value};
 ghost use Rattle.amm_model.specs.Refusals.{refusal_number, refusal_word};
 ghost use Rattle.amm_model.specs.ReplyText.{verdict, CanBeWritten};
-ghost use Rattle.amm_cert.specs.Texts.{values_text};
+ghost use Rattle.amm_text.specs.Texts.{values_text};
 
-use amm_cert::piece::{push_each, push_number, push_numbers, push_plain, push_pool, push_wide};
 use amm_cert::put_certificate;
 use amm_cert::quote::{push_legs, push_prices};
 use amm_model::{Answer, Memory, PairRecord, PoolName, Quote, Refusal};
+use amm_text::{push_each, push_number, push_numbers, push_plain, push_pool, push_wide};
 
 /// The answer behind a comma, value by value.
 pub fn push_verdict(text: &mut Vec<u8>, answer: &Answer) -> Result<(), Memory>

@@ -3,8 +3,8 @@ ghost use Rattle.std.specs.Prelude.{◌≡◌, ◌++◌, IfOk, OnOk};
 ghost use Rattle.amm_model.specs.ReplyText.{reply_text, CanBeWritten};
 
 use crate::verdict::push_verdict;
-use amm_cert::piece::put_number;
 use amm_model::{Answer, Memory, Reply};
+use amm_text::put_number;
 use std::alloc::Global;
 
 /// The text of a reply, with its newline.

@@ -1,6 +1,6 @@
 use Rattle.std.proofs.Common.{map, append_assoc, refl}
 use Rattle.amm_model.specs.Certificate.{leg_value}
-use Rattle.amm_cert.proofs.Joined.{list_text}
+use Rattle.amm_text.proofs.Joined.{list_text}
 use Rattle.amm_cert.proofs.quote.push_legs.Goals as goal
 
 pub returns : goal.returns

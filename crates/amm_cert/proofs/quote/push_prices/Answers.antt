@@ -1,7 +1,7 @@
 use Rattle.std.proofs.Common.{map, append_assoc, refl}
 use Rattle.std.specs.List.{zip}
 use Rattle.amm_model.specs.Certificate.{price_value}
-use Rattle.amm_cert.proofs.Joined.{list_text}
+use Rattle.amm_text.proofs.Joined.{list_text}
 use Rattle.amm_cert.proofs.quote.push_prices.Goals as goal
 
 pub returns : goal.returns

@@ -9,7 +9,7 @@ use Rattle.amm_model.specs.declared.route.Leg.{Leg}
 use Rattle.amm_model.specs.Json.{whole, list}
 use Rattle.amm_model.specs.Routing.{no_pool, token0_of, token1_of}
 use Rattle.amm_model.specs.Certificate.{leg_value}
-use Rattle.amm_cert.proofs.Joined.{joined_more_of}
+use Rattle.amm_text.proofs.Joined.{joined_more_of}
 use Rattle.amm_cert.proofs.quote.put_legs.Goals as goal
 
 abbrev row : ProblemPool → Leg → Data

@@ -1,6 +1,6 @@
 use Rattle.std.proofs.Common.{refl}
 use Rattle.amm_model.specs.Certificate.{pool_value}
-use Rattle.amm_cert.proofs.Joined.{joined_more_of}
+use Rattle.amm_text.proofs.Joined.{joined_more_of}
 use Rattle.amm_cert.proofs.quote.put_pools.Goals as goal
 
 pub loop-i-preserved : goal.loop-i-preserved

@@ -3,7 +3,7 @@ use Rattle.std.specs.List.{zip}
 use Rattle.std.proofs.lemmas.List.{take_all}
 use Rattle.std.proofs.lemmas.Slice.Zip.{get_or-zip, length-zip}
 use Rattle.amm_model.specs.Certificate.{price_value}
-use Rattle.amm_cert.proofs.Joined.{joined_more_of}
+use Rattle.amm_text.proofs.Joined.{joined_more_of}
 use Rattle.amm_cert.proofs.quote.put_prices.Goals as goal
 
 as_many : (tokens : List (List ℕ)) (prices : List ℕ) → length prices ≡ length tokens → length (zip tokens prices) ≡ length tokens

@@ -7,8 +7,8 @@ use Rattle.json.specs.Print.{escape_byte}
 use Rattle.amm_model.specs.declared.route.Quote.{Quote}
 use Rattle.amm_model.specs.Json.{whole, wide, list}
 use Rattle.amm_model.specs.Certificate.{pool_value, leg_value, prices_value, legs_value}
-use Rattle.amm_cert.specs.Texts.{next_text, values_text}
-use Rattle.amm_cert.proofs.Joined.{one_more, closed}
+use Rattle.amm_text.specs.Texts.{next_text, values_text}
+use Rattle.amm_text.proofs.Joined.{one_more, closed}
 use Rattle.amm_cert.proofs.writer.put_certificate.Goals as goal
 
 -- the name of the format

@@ -2,7 +2,7 @@ use Rattle.std.proofs.Common.{◌++◌, map, ap, ◌∙◌, append_assoc}
 use Rattle.std.specs.Prelude.{codes}
 use Rattle.serde_json.specs.Data.{string}
 use Rattle.amm_model.specs.Json.{whole}
-use Rattle.amm_cert.specs.Texts.{next_text, values_text}
+use Rattle.amm_text.specs.Texts.{next_text, values_text}
 use Rattle.std.proofs.lemmas.Result.{on_ok_weaker}
 use Rattle.amm_reply.proofs.Words.{ok_text}
 use Rattle.amm_reply.proofs.verdict.accepted.Goals as goal

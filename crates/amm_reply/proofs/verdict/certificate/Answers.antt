@@ -4,7 +4,7 @@ use Rattle.serde_json.specs.Data.{string}
 use Rattle.serde_json.specs.Written.{compact_text}
 use Rattle.amm_model.specs.Certificate.{certificate_value}
 use Rattle.std.proofs.lemmas.Result.{on_ok_weaker}
-use Rattle.amm_cert.proofs.Joined.{one_more}
+use Rattle.amm_text.proofs.Joined.{one_more}
 use Rattle.amm_reply.proofs.verdict.certificate.Goals as goal
 
 pub returns : goal.returns

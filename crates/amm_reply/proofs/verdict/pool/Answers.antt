@@ -4,7 +4,7 @@ use Rattle.serde_json.specs.Data.{Data, string}
 use Rattle.amm_model.specs.declared.pair.PairRecord.{PairRecord}
 use Rattle.amm_model.specs.Json.{whole, wide}
 use Rattle.std.proofs.lemmas.Result.{on_ok_weaker}
-use Rattle.amm_cert.proofs.Joined.{one_more}
+use Rattle.amm_text.proofs.Joined.{one_more}
 use Rattle.amm_reply.proofs.verdict.pool.Goals as goal
 
 pub returns : goal.returns

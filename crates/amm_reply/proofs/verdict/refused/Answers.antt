@@ -4,9 +4,9 @@ use Rattle.serde_json.specs.Data.{Data, string}
 use Rattle.amm_model.specs.Json.{whole}
 use Rattle.amm_model.specs.Refusals.{refusal_number, refusal_word}
 use Rattle.amm_model.proofs.Escapes.{escape-word}
-use Rattle.amm_cert.specs.Texts.{next_text}
+use Rattle.amm_text.specs.Texts.{next_text}
 use Rattle.std.proofs.lemmas.Result.{on_ok_weaker}
-use Rattle.amm_cert.proofs.Joined.{one_more}
+use Rattle.amm_text.proofs.Joined.{one_more}
 use Rattle.amm_reply.proofs.Words.{no_text}
 use Rattle.amm_reply.proofs.verdict.refused.Goals as goal
 

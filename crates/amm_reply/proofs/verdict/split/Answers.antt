@@ -4,9 +4,9 @@ use Rattle.serde_json.specs.Data.{Data, string}
 use Rattle.amm_model.specs.declared.route.Quote.{Quote}
 use Rattle.amm_model.specs.Json.{whole, wide, list}
 use Rattle.amm_model.specs.Certificate.{leg_value, prices_value, legs_value}
-use Rattle.amm_cert.specs.Texts.{next_text}
+use Rattle.amm_text.specs.Texts.{next_text}
 use Rattle.std.proofs.lemmas.Result.{on_ok_weaker}
-use Rattle.amm_cert.proofs.Joined.{one_more}
+use Rattle.amm_text.proofs.Joined.{one_more}
 use Rattle.amm_reply.proofs.verdict.split.Goals as goal
 
 pub returns : goal.returns

@@ -3,8 +3,8 @@ use Rattle.std.specs.Prelude.{codes}
 use Rattle.serde_json.specs.Written.{compact_text}
 use Rattle.amm_model.specs.Json.{whole}
 use Rattle.amm_model.specs.ReplyText.{verdict, reply_text}
-use Rattle.amm_cert.specs.Texts.{values_text}
-use Rattle.amm_cert.proofs.Joined.{items_text-values}
+use Rattle.amm_text.specs.Texts.{values_text}
+use Rattle.amm_text.proofs.Joined.{items_text-values}
 use Rattle.amm_reply.proofs.writer.append_answer.Goals as goal
 
 shape : (old line values : List ℕ) → (((old ++ 91 ∷ []) ++ line) ++ values) ++ 93 ∷ 10 ∷ [] ≡ old ++ ((91 ∷ (line ++ (values ++ 93 ∷ []))) ++ 10 ∷ [])

@@ -1,7 +1,7 @@
 use Rattle.std.proofs.Common.{refl}
 use Rattle.amm_model.specs.Json.{whole}
-use Rattle.amm_cert.proofs.Joined.{joined_more_of}
-use Rattle.amm_cert.proofs.piece.put_numbers.Goals as goal
+use Rattle.amm_text.proofs.Joined.{joined_more_of}
+use Rattle.amm_text.proofs.piece.put_numbers.Goals as goal
 
 pub loop-i-preserved : goal.loop-i-preserved
 loop-i-preserved c =

@@ -1,10 +1,10 @@
-//! Values behind the text of an array that is being written. Where memory is lacking, a part may have been written.
+//! Values as text, behind what is there.
 ghost use Rattle.std.specs.Prelude.{◌≡◌, ◌++◌, OnOk, map, nat_lt};
 ghost use Rattle.serde_json.specs.Data.{string};
 ghost use Rattle.serde_json.specs.Written.{compact_text, comma_if};
 ghost use Rattle.json.specs.Print.{escape};
 ghost use Rattle.amm_model.specs.Json.{whole, wide, list};
-ghost use Rattle.amm_cert.specs.Texts.{next_text, values_text, joined_text};
+ghost use Rattle.amm_text.specs.Texts.{next_text, values_text, joined_text};
 
 use amm_model::{Memory, PoolName, TokenName};
 use itoa::Buffer;

@@ -1,7 +1,7 @@
 use Rattle.std.proofs.Common.{map, append_assoc, refl}
 use Rattle.amm_model.specs.Json.{whole}
-use Rattle.amm_cert.proofs.Joined.{list_text}
-use Rattle.amm_cert.proofs.piece.push_numbers.Goals as goal
+use Rattle.amm_text.proofs.Joined.{list_text}
+use Rattle.amm_text.proofs.piece.push_numbers.Goals as goal
 
 pub returns : goal.returns
 returns c =

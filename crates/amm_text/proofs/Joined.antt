@@ -7,7 +7,7 @@ use Rattle.serde_json.specs.Data.{Data}
 use Rattle.serde_json.specs.View.{items_of}
 use Rattle.serde_json.specs.Written.{compact_text, items_text, comma_if}
 use Rattle.amm_model.specs.Json.{list}
-use Rattle.amm_cert.specs.Texts.{next_text, values_text, joined_text}
+use Rattle.amm_text.specs.Texts.{next_text, values_text, joined_text}
 
 pub values_text-append : (xs ys : List Data) → values_text (xs ++ ys) ≡ values_text xs ++ values_text ys
 values_text-append [] ys = refl

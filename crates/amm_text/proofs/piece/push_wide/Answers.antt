@@ -1,6 +1,6 @@
 use Rattle.std.proofs.Common.{◌<◌, ◌^◌, append_assoc, refl, arith}
 use Rattle.amm_model.proofs.Escapes.{escape-decimal}
-use Rattle.amm_cert.proofs.piece.push_wide.Goals as goal
+use Rattle.amm_text.proofs.piece.push_wide.Goals as goal
 
 pub returns : goal.returns
 returns c =
