@@ -19,7 +19,7 @@ use Rattle.amm_model.specs.Routing.{Name, ProblemView, IsProblem, no_pool, one_p
 use Rattle.amm_model.proofs.Problems.{no_part}
 use Rattle.amm_model.specs.Legs.{leg_pool, token_in}
 use Rattle.amm_model.specs.Certificate.{pool_value, price_value, leg_value, prices_value, legs_value, versioned_value, certificate_text, IsVersionFor, IsWritable, IsCertifiable, IsCertificateOf}
-use Rattle.amm_cert.specs.Plain.{IsPlain, ArePlain}
+use Rattle.amm_cert.proofs.Plain.{IsPlain, ArePlain}
 use Rattle.amm_cert.proofs.Ascii.{IsUtf8-token, IsUtf8-pool}
 use Rattle.amm_cert.proofs.Forms.{by_items}
 use Rattle.amm_cert.proofs.ReadBack.{json_value-compact_text}

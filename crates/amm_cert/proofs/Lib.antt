@@ -5,6 +5,7 @@ pub mod Places
 pub mod Forms
 pub mod Parts
 pub mod Whole
+pub mod Plain
 pub mod ReadBack
 pub mod Unique
 pub mod Ascii

@@ -17,7 +17,7 @@ use Rattle.amm_model.specs.Json.{json_value}
 use Rattle.std.proofs.lemmas.Str.{is_utf8-from_IsUtf8}
 use Rattle.serde_json.proofs.Numbers.{number_of-decimal}
 use Rattle.serde_json.proofs.Texts.{print-outline}
-use Rattle.amm_cert.specs.Plain.{IsPlain, ArePlain}
+use Rattle.amm_cert.proofs.Plain.{IsPlain, ArePlain}
 
 pub json_value-some : (bytes : List ℕ) (d : Data) → IsUtf8 bytes → read bytes ≡ Some d → json_value bytes ≡ Some d
 unfolding json_value

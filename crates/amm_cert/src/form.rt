@@ -1,4 +1,4 @@
-//! The forms of values in certificates.
+//! The values of which a certificate is made, each read from JSON or refused.
 ghost use Rattle.std.specs.Prelude.{◌≡◌, map, IfOk, ◌<◌, ◌^◌};
 ghost use Rattle.serde_json.specs.View.{view};
 ghost use Rattle.amm_model.specs.Outcome.{Gives};
@@ -13,6 +13,7 @@ use std::alloc::Global;
 /// What is said of a value that is no part of a certificate.
 pub const MISFIT: Fault = Fault::Refused(Refusal::BadCommand);
 
+/// The bytes of a string.
 pub fn text(value: &Value) -> Result<&str, Fault>
     ensures { Gives (λ text. text.now) result (as_text (view value.now)) }
 {
@@ -22,6 +23,7 @@ pub fn text(value: &Value) -> Result<&str, Fault>
     }
 }
 
+/// The values of an array.
 #[tactic(auto, using(crate::proofs::Values::list_viewed))]
 pub fn list(value: &Value) -> Result<&[Value], Fault>
     ensures { Gives (λ values. map view values.now) result (as_list (view value.now)) }
@@ -32,6 +34,7 @@ pub fn list(value: &Value) -> Result<&[Value], Fault>
     }
 }
 
+/// The name of a token.
 #[tactic(auto, unfolding(amm_model::specs::Forms::as_token))]
 pub fn token(alloc: Global, value: &Value) -> Result<TokenName, Fault>
     ensures { Gives (λ name. name) result (as_token (view value.now)) }
@@ -40,6 +43,7 @@ pub fn token(alloc: Global, value: &Value) -> Result<TokenName, Fault>
     TokenName::read(alloc, name.as_bytes())?.ok_or(MISFIT)
 }
 
+/// The name of a pool, at any fee.
 #[tactic(auto, unfolding(amm_model::specs::Forms::as_pool))]
 pub fn pool(alloc: Global, value: &Value) -> Result<PoolName, Fault>
     ensures { Gives (λ name. name) result (as_pool (view value.now)) }
@@ -85,6 +89,7 @@ pub fn wide(value: &Value) -> Result<u128, Fault>
     }
 }
 
+/// The number below 2^128 whose decimal digits, without a zero in front, are the text.
 fn wide_number(text: &str) -> Option<u128>
     ensures { result ≡ wide_of text.now }
 {

@@ -9,8 +9,8 @@ ghost use Rattle.amm_model.specs.Routing.{token0_of, token1_of};
 ghost use Rattle.amm_model.specs.declared.route.Leg as legs_view;
 ghost use Rattle.amm_text.specs.Texts.{next_text, joined_text};
 
-use amm_text::{push_number, push_token, put_comma, put_pool, put_token};
 use amm_model::{Leg, Memory, ProblemPool, TokenName};
+use amm_text::{push_number, push_token, put_comma, put_pool, put_token};
 
 fn put_problem_pool(text: &mut Vec<u8>, pool: &ProblemPool) -> Result<(), Memory>
     ensures { OnOk result (text.new.items ≡ text.old.items ++ compact_text (pool_value pool.now)) }

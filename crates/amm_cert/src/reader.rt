@@ -1,4 +1,4 @@
-//! Reads a certificate.
+//! Reads a certificate: ten values, the quote over the problem that they spell, or nothing.
 ghost use Rattle.std.specs.Prelude.{◌≡◌, ◌↔◌, ◌∷◌, ◌<◌, ◌^◌, [], map, IfOk, IsTrue, Some, ok_or};
 ghost use Rattle.serde_json.specs.View.{view};
 ghost use Rattle.amm_model.specs.declared.fault.Refusal.TheVariants.{BadJson};
@@ -55,12 +55,14 @@ fn heading(
     })
 }
 
+/// Whether pools may be written in a version: 1 where each has the fee of 3, 2 always.
 fn is_version_for(version: u64, pools: &[ProblemPool]) -> bool
     ensures { IsTrue result ↔ IsVersionFor version pools.now }
 {
     version == 2 || (version == 1 && pools.iter().all(|pool| pool.name.fee() == 3))
 }
 
+/// The quote over a problem that is read already.
 fn quote_over(
     alloc: Global,
     problem: Problem,
@@ -170,6 +172,7 @@ fn quote_of(alloc: Global, bytes: &[u8]) -> Result<Quote, Fault>
 }
 
 /// The quote of which the bytes are a certificate; None exactly where they are a certificate of none.
+/// Memory is the only error.
 pub fn read(alloc: Global, bytes: &[u8]) -> Result<Option<Quote>, Memory>
     ensures { IfOk result (λ found. (quote : quote_view.Quote) → (found ≡ Some quote) ↔ IsCertificateOf bytes.now quote) }
 {

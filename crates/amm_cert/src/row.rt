@@ -1,4 +1,4 @@
-//! The rows of a certificate.
+//! The rows of a certificate: pools, prices and legs.
 ghost use Rattle.std.specs.Prelude.{◌≡◌, ◌≤◌, ◌<◌, length, map, IfOk};
 ghost use Rattle.serde_json.specs.View.{view};
 ghost use Rattle.amm_model.specs.Outcome.{Gives};

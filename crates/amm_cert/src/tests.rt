@@ -1,22 +1,16 @@
+//! Certificates read, and written back.
 use super::*;
 use std::alloc::Global;
 
-const ONE_POOL: &[u8] =
-    b"[\"amm-split-certificate\",2,\"ETH\",\"USD\",10000,[[\"ETH/USD:1\",1000000,4000000,1000000,4000000]],[[\"ETH\",4194304],[\"USD\",1048576]],[[\"ETH/USD:1\",\"ETH\",10000,39564]],39564,\"40000\"]";
+/// A certificate over a pool at the fee of 1, compact and as it is written.
+const ONE_POOL: &str =
+    r#"["amm-split-certificate",2,"ETH","USD",10000,[["ETH/USD:1",1000000,4000000,1000000,4000000]],[["ETH",4194304],["USD",1048576]],[["ETH/USD:1","ETH",10000,39564]],39564,"40000"]"#;
 
-const SPACED: &[u8] =
-    b" [ \"amm-split-certificate\",2, \"ETH\",\"USD\",10000,\n[[\"ETH/USD:1\",1000000,4000000,1000000,4000000]],[[\"ETH\",4194304],[\"USD\",1048576]],[[\"ETH/USD:1\",\"ETH\",10000,39564]],39564,\"40000\"]\t";
+/// The same with white space, and with a letter of a name as an escape.
+const SPACED: &str = " [ \"amm-split-certificate\",2, \"\\u0045TH\",\"USD\",10000,
+[[\"ETH/USD:1\",1000000,4000000,1000000,4000000]],[[\"ETH\",4194304],[\"USD\",1048576]],[[\"ETH/USD:1\",\"ETH\",10000,39564]],39564,\"40000\"]\t";
 
-const FIRST_VERSION: &[u8] =
-    b"[\"amm-split-certificate\",1,\"ETH\",\"USD\",10000,[[\"ETH/USD:1\",1000000,4000000,1000000,4000000]],[[\"ETH\",4194304],[\"USD\",1048576]],[[\"ETH/USD:1\",\"ETH\",10000,39564]],39564,\"40000\"]";
-
-const PLAIN_FEE: &[u8] =
-    b"[\"amm-split-certificate\",1,\"ETH\",\"USD\",10000,[[\"ETH/USD\",1000000,4000000,1000000,4000000]],[[\"ETH\",4194304],[\"USD\",1048576]],[],0,\"0\"]";
-
-const ZERO_IN_FRONT: &[u8] =
-    b"[\"amm-split-certificate\",1,\"ETH\",\"USD\",10000,[[\"ETH/USD\",1000000,4000000,1000000,4000000]],[[\"ETH\",4194304],[\"USD\",1048576]],[],0,\"00\"]";
-
-// Whether the bytes are a certificate of a quote that is written as the text.
+/// Whether the bytes are a certificate of a quote that is written as the text.
 fn is_read_as(alloc: Global, bytes: &[u8], text: &[u8]) -> Option<bool> {
     let quote = read(alloc, bytes).ok()??;
     if quote.prices.as_slice().len() != quote.problem.tokens().len() {
@@ -34,21 +28,43 @@ fn is_read_as(alloc: Global, bytes: &[u8], text: &[u8]) -> Option<bool> {
     Some(write(alloc, &quote).ok()?.as_slice() == text)
 }
 
-fn delivered(alloc: Global, bytes: &[u8]) -> Option<u64> {
-    Some(read(alloc, bytes).ok()??.delivered)
+#[test]
+fn what_is_read_is_written_back(rt: HostRuntime) {
+    for text in [ONE_POOL, SPACED] {
+        assert_eq!(rt;
+            is_read_as(rt.alloc(), text.as_bytes(), ONE_POOL.as_bytes()),
+            Some(true)
+        );
+    }
+}
+
+/// The amount that a certificate says is delivered.
+fn delivered(alloc: Global, text: &str) -> Option<u64> {
+    Some(read(alloc, text.as_bytes()).ok()??.delivered)
 }
 
 #[test]
-fn read_back(rt: HostRuntime) {
-    assert_eq!(rt; is_read_as(rt.alloc(), ONE_POOL, ONE_POOL), Some(true));
-    assert_eq!(rt; is_read_as(rt.alloc(), SPACED, ONE_POOL), Some(true));
-}
-
-#[test]
-fn certificates_or_none(rt: HostRuntime) {
-    assert_eq!(rt; delivered(rt.alloc(), ONE_POOL), Some(39564));
-    assert_eq!(rt; delivered(rt.alloc(), FIRST_VERSION), None);
-    assert_eq!(rt; delivered(rt.alloc(), PLAIN_FEE), Some(0));
-    assert_eq!(rt; delivered(rt.alloc(), ZERO_IN_FRONT), None);
-    assert_eq!(rt; delivered(rt.alloc(), b"[1,2"), None);
+fn a_certificate_or_none(rt: HostRuntime) {
+    for (text, amount) in [
+        (ONE_POOL, Some(39564)),
+        // A pool of the fee 1 in version 1, which has pools of the fee 3 alone.
+        (
+            r#"["amm-split-certificate",1,"ETH","USD",10000,[["ETH/USD:1",1000000,4000000,1000000,4000000]],[["ETH",4194304],["USD",1048576]],[["ETH/USD:1","ETH",10000,39564]],39564,"40000"]"#,
+            None,
+        ),
+        // No leg at all: a certificate, whatever a check says of it.
+        (
+            r#"["amm-split-certificate",1,"ETH","USD",10000,[["ETH/USD",1000000,4000000,1000000,4000000]],[["ETH",4194304],["USD",1048576]],[],0,"0"]"#,
+            Some(0),
+        ),
+        // A bound with a zero in front.
+        (
+            r#"["amm-split-certificate",1,"ETH","USD",10000,[["ETH/USD",1000000,4000000,1000000,4000000]],[["ETH",4194304],["USD",1048576]],[],0,"00"]"#,
+            None,
+        ),
+        // No JSON.
+        ("[1,2", None),
+    ] {
+        assert_eq!(rt; delivered(rt.alloc(), text), amount, "{text}");
+    }
 }

@@ -3,12 +3,12 @@ ghost use Rattle.std.specs.Prelude.{◌≡◌, ◌++◌, IfOk, OnOk};
 ghost use Rattle.serde_json.specs.Written.{compact_text};
 ghost use Rattle.amm_model.specs.Certificate.{certificate_value, certificate_text, IsCertifiable, IsCertificateOf, IsWritable};
 
-use amm_text::{push_number, push_token, push_wide};
 use crate::quote::{push_legs, push_pools, push_prices};
 use amm_model::{Memory, Quote};
+use amm_text::{push_number, push_token, push_wide};
 use std::alloc::Global;
 
-/// The certificate of a quote.
+/// The certificate of a quote, in version 2: its compact text. Memory is the only error.
 #[tactic(auto, unfolding(amm_model::specs::Certificate::certificate_text))]
 pub fn write(alloc: Global, quote: &Quote) -> Result<Vec<u8>, Memory>
     requires { IsWritable quote.now }
@@ -21,7 +21,7 @@ pub fn write(alloc: Global, quote: &Quote) -> Result<Vec<u8>, Memory>
     Ok(text)
 }
 
-// Does nothing: the parts of a quote are as their types keep them.
+/// Does nothing: the parts of a quote are as their types keep them.
 fn kept(quote: &Quote)
     requires { IsWritable quote.now }
     ensures { IsCertifiable quote.now }
@@ -32,7 +32,8 @@ fn kept(quote: &Quote)
     let _bound = quote.bound;
 }
 
-/// The certificate of a quote, behind what is there.
+/// The certificate of a quote, behind what is there. Where memory is lacking, a part of it may have
+/// been written.
 pub fn put_certificate(text: &mut Vec<u8>, quote: &Quote) -> Result<(), Memory>
     requires { IsWritable quote.now }
     ensures { OnOk result (text.new.items ≡ text.old.items ++ compact_text (certificate_value quote.now)) }
