@@ -1,14 +1,15 @@
 #!/usr/bin/env python3
 """The rules of the ledger once more, in unbounded whole numbers and with no thought of speed.
 
-It was written from docs/LEDGER.md and docs/COMMANDS.md and shares nothing with the program, so that the two can be compared:
-`scripts/compare` runs both on random sessions. `scripts/model.py <SESSION.jsonl` prints the replies to a session.
+It was written from docs/LEDGER.md and docs/COMMANDS.md and shares nothing with the program, so that
+the two can be compared: `scripts/compare` runs both on random sessions. `scripts/model.py
+<SESSION.jsonl` prints the replies to a session.
 """
 import copy
 import json
 import re
 import sys
-from math import isqrt
+from math import isfinite, isqrt
 
 AMOUNT = 2**52 - 1
 RESERVE = 2**48 - 1
@@ -29,6 +30,14 @@ class Refused(Exception):
 def refuse_if(test, word):
     if test:
         raise Refused(word)
+
+
+def finite(text):
+    """A number of a JSON text that is no whole number. One that no double holds makes the whole text no JSON."""
+    number = float(text)
+    if not isfinite(number):
+        raise ValueError(text)
+    return number
 
 
 def is_user(text):
@@ -442,7 +451,7 @@ class Ledger:
         try:
             refuse_if(len(line) > 65536, "LONG_LINE")
             try:
-                value = json.loads(line)
+                value = json.loads(line, parse_float=finite, parse_constant=finite)
             except ValueError:
                 raise Refused("BAD_JSON")
             refuse_if(not has_form(value, self.kinds), "BAD_COMMAND")
