@@ -2,7 +2,9 @@
 use super::*;
 use std::alloc::Global;
 
-/// A certificate over a pool at the fee of 1, compact and as it is written.
+/// A certificate over a pool at the fee of 1, compact and as it is written. Its leg gives
+/// floor(999*10000*4000000 / (1000*1000000 + 999*10000)) = 39564; the prices are those of the
+/// reserves, so the pool has no worth, and the bound is 4194304*10000/1048576 = 40000.
 const ONE_POOL: &str =
     r#"["amm-split-certificate",2,"ETH","USD",10000,[["ETH/USD:1",1000000,4000000,1000000,4000000]],[["ETH",4194304],["USD",1048576]],[["ETH/USD:1","ETH",10000,39564]],39564,"40000"]"#;
 

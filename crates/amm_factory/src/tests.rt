@@ -1,3 +1,4 @@
+//! Creating pairs, and who may set what.
 ghost use Rattle.std.specs.Prelude.{◌≡◌, OnOk};
 ghost use Rattle.amm_model.specs.Sound.{IsSound};
 ghost use Rattle.amm_model.specs.Swap.{IsFee};

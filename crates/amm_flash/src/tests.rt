@@ -1,3 +1,4 @@
+//! Borrowers that pay, that cheat, and that borrow again.
 ghost use Rattle.std.specs.Prelude.{◌≡◌};
 
 mod borrowers;
@@ -62,6 +63,8 @@ fn is_untouched(state: &State, names: &Names, pools: &Pools) -> bool {
         && !book.any_locked()
 }
 
+// Of 1000 ETH: 997*x >= 1000*1000 holds from x = 1004 on; in USD, (1000*999000)*(1000*4000000 +
+// 997*x) >= 10^6*1000000*4000000 holds from x = 4017 on.
 #[test]
 fn borrowers_that_pay(rt: HostRuntime) -> Result<(), Fail> {
     let alloc = rt.alloc();

@@ -1,3 +1,4 @@
+//! Each call on one pool of ETH and USD.
 ghost use Rattle.std.specs.Prelude.{◌≡◌, ◌≢◌, OnOk, OnErr};
 ghost use Rattle.amm_model.specs.Sound.{IsSound};
 ghost use Rattle.amm_state.specs.declared.mark.Mark.{Mark};
@@ -78,7 +79,8 @@ fn create(alloc: Global, tx: &mut Tx, pool: &PoolName) -> Result<(), Fault>
     tx.add_pair(alloc, pool)
 }
 
-// A pool of 1000000 ETH and 4000000 USD, whose shares are the user's.
+// A pool of 1000000 ETH and 4000000 USD, whose shares are the user's: the root of the product is
+// 2000000, and 1000 are locked.
 fn found(alloc: Global, tx: &mut Tx, m: &Market) -> Result<MintReceipt, Fault>
     requires clean { tx.old.mark ≡ Mark.Clean }
     requires sound { IsSound tx.old.present }
@@ -91,6 +93,7 @@ fn found(alloc: Global, tx: &mut Tx, m: &Market) -> Result<MintReceipt, Fault>
     mint(alloc, tx, &m.pool, &Holder::User(m.alice))
 }
 
+// floor(997*10000*4000000 / (1000*1000000 + 997*10000)) = 39486; the 7 lie above the reserves.
 fn swap_and_skim(
     alloc: Global,
     tx: &mut Tx,
@@ -108,7 +111,8 @@ fn swap_and_skim(
     Ok((swapped, skimmed))
 }
 
-// Takes gifts into the reserves, and mints for the pool itself shares that it burns.
+// Takes gifts into the reserves, which are 1100000 and 4000000 then, and mints for the pool itself
+// shares that it burns: 110000*2000000/1100000 = 200000 for what comes in, and all of it back.
 fn mint_and_burn(
     alloc: Global,
     tx: &mut Tx,
@@ -129,6 +133,7 @@ fn mint_and_burn(
     Ok((minted, burned))
 }
 
+// 997*1004 >= 1000*1000, so 1004 are enough for 1000.
 fn borrow(alloc: Global, tx: &mut Tx, m: &Market) -> Result<SwapReceipt, Fault>
     requires clean { tx.old.mark ≡ Mark.Clean }
     requires sound { IsSound tx.old.present }

@@ -1,3 +1,4 @@
+//! Transactions that are kept and undone.
 ghost use Rattle.std.specs.Prelude.{◌≡◌, OnOk};
 ghost use Rattle.amm_state.specs.declared.mark.Mark.{Mark};
 

@@ -1,4 +1,5 @@
-//! A market for the tests: a pool of ETH and USD, one of BTC and ETH, and alice, who made both and has some of each token left.
+//! A market for the tests: a pool of ETH and USD, one of BTC and ETH, and alice, who made both and
+//! has some of each token left.
 ghost use Rattle.std.specs.Prelude.{◌≡◌, OnOk};
 ghost use Rattle.amm_model.specs.Sound.{IsAtRest};
 ghost use Rattle.amm_state.specs.declared.mark.Mark.{Mark};

@@ -1,4 +1,4 @@
-//! The second half of the day.
+//! The second half of the day. Its replies are those of `scripts/model.py` too.
 
 pub const EVENING: &str = r#"
 ["swapout","cy",["B","A"],919908,138082,"A/B:1",4503599627370495]

@@ -1,5 +1,6 @@
-//! The first half of a day of all kinds of lines: three users, three tokens, pools of each fee, the protocol's fee on. The replies
-//! were worked out by `scripts/model.py`, which shares nothing with the program.
+//! The first half of a day of all kinds of lines: three users, three tokens, pools of each fee, the
+//! protocol's fee on. The replies were worked out by `scripts/model.py`, which shares nothing with
+//! the program.
 
 pub const MORNING: &str = r#"
 ["feeto","admin","fund"]

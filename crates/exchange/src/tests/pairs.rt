@@ -1,7 +1,9 @@
-//! Pairs: creation, shares, swaps, the protocol's fee and the price accumulators.
+//! Pairs: creation, shares, swaps, the protocol's fee and the price accumulators. What was worked
+//! out by hand has its derivation beside it; `f` is a fee in thousandths and `g` is 1000 less it.
 use super::session::{ETH_USD, is_run, is_transcript};
 use std::test::Fail;
 
+/// The shares are the root of 1000000*4000000.
 const CREATES_A_PAIR_AND_TELLS_IT: &str = r#"
 ["pool","ETH/USD"]
 => [7,"ok",1000000,4000000,1000000,4000000,2000000,"0",0,"0","0"]
@@ -11,6 +13,8 @@ const CREATES_A_PAIR_AND_TELLS_IT: &str = r#"
 => [9,"no",9,"IDENTICAL"]
 "#;
 
+/// The root of 1000*1000 is 1000, and 1000 shares are locked: nothing is left. That of 1001*1001
+/// leaves 1.
 const LOCKS_THE_FIRST_SHARES: &str = r#"
 ["deposit","alice","ETH",1001]
 => [1,"ok",1001,1001]
@@ -32,6 +36,8 @@ const LOCKS_THE_FIRST_SHARES: &str = r#"
 => [9,"ok",1,0]
 "#;
 
+/// floor(997*10000*4000000 / (1000*1000000 + 997*10000)) = floor(39880000000000 / 1009970000) =
+/// 39486.
 const SWAPS_UP_TO_THE_PRODUCT: &str = r#"
 ["transfer","alice","ETH","ETH/USD",10000]
 => [7,"ok"]
@@ -56,6 +62,9 @@ const REFUSES_SWAPS_IN_THE_LISTED_ORDER: &str = r#"
 => [12,"no",13,"NO_PAIR"]
 "#;
 
+/// The roots are 1100000 and 1000000, so the fee is floor(1000000*100000 / (5*1100000 + 1000000)) =
+/// floor(10^11 / 6500000) = 15384 shares; then the mint is floor(110000*1015384 / 1100000) =
+/// 101538, and 1015384 + 101538 = 1116922.
 const TAKES_THE_PROTOCOLS_FEE: &str = r#"
 ["deposit","alice","ETH",2000000]
 => [1,"ok",2000000,2000000]
@@ -93,6 +102,8 @@ const TAKES_THE_PROTOCOLS_FEE: &str = r#"
 => [17,"no",12,"FORBIDDEN"]
 "#;
 
+/// From 2^32-5 to 2^32+5 are 10 seconds at a price of 1, which is 2^48: 10*2^48 = 2814749767106560;
+/// 2^32+5 is told as 5.
 const COUNTS_TIME_ACROSS_ITS_WRAP: &str = r#"
 ["time",4294967291]
 => [1,"ok"]
@@ -118,6 +129,9 @@ const COUNTS_TIME_ACROSS_ITS_WRAP: &str = r#"
 => [11,"no",8,"TIME_BACK"]
 "#;
 
+/// The root of 2^48-1 is 2^24-1 = 16777215. Over 2*(2^32-1) = 8589934590 seconds the prices are
+/// (2^48-1)*2^48 and floor(2^48 / (2^48-1)) = 1: the sums are 8589934590*(2^48-1)*2^48 modulo
+/// 2^128, and 8589934590; 2*(2^32-1) modulo 2^32 is 2^32-2.
 const WRAPS_THE_ACCUMULATORS: &str = r#"
 ["deposit","alice","ETH",1]
 => [1,"ok",1,1]
@@ -143,6 +157,8 @@ const WRAPS_THE_ACCUMULATORS: &str = r#"
 => [11,"ok",1,281474976710655,1,281474976710655,16777215,"0",4294967294,"340282366762479720583207265936284319744","8589934590"]
 "#;
 
+/// 4000000 + 2^48 is more than a reserve can be; what lies above the reserve is the 2^48 =
+/// 281474976710656.
 const OVERFLOWS_BEYOND_A_RESERVE: &str = r#"
 ["deposit","alice","USD",281474976710656]
 => [7,"ok",281474980710656,281474984710656]
@@ -154,6 +170,7 @@ const OVERFLOWS_BEYOND_A_RESERVE: &str = r#"
 => [10,"ok",0,281474976710656]
 "#;
 
+/// 200000 of 2000000 shares are a tenth of both reserves.
 const BURNS_WHAT_LIES_AT_THE_POOL: &str = r#"
 ["transfer","alice","ETH/USD","ETH/USD",200000]
 => [7,"ok"]
@@ -163,6 +180,8 @@ const BURNS_WHAT_LIES_AT_THE_POOL: &str = r#"
 => [9,"no",22,"INSUFFICIENT_LIQUIDITY_BURNED"]
 "#;
 
+/// floor(g*10000*4000000 / (10^9 + g*10000)) is floor(39960000000000 / 1009990000) = 39564 for the
+/// fee of 1, 39486 for that of 3, and floor(39600000000000 / 1009900000) = 39211 for that of 10.
 const KEEPS_A_POOL_OF_EACH_FEE: &str = r#"
 ["create","bob","ETH","USD",1]
 => [7,"ok","ETH/USD:1"]

@@ -1,7 +1,10 @@
-//! What the router refuses, in its order, and paths that come twice to a pool.
+//! What the router refuses, in its order, and paths that come twice to a pool. The order is that of
+//! docs/COMMANDS.md; amounts that were worked out by hand have their derivation beside them.
 use super::session::{ETH_USD, is_transcript};
 use std::test::Fail;
 
+/// The amounts are those of `scripts/model.py`. The pool's second visit finds other reserves than
+/// the amounts were worked out from.
 const COMES_TWICE_TO_A_POOL: &str = r#"
 ["deposit","alice","A",1000000000]
 => [1,"ok",1000000000,1000000000]
@@ -33,6 +36,8 @@ const COMES_TWICE_TO_A_POOL: &str = r#"
 => [14,"ok",1029570,985429,1029570,985429,1000000,"0",0,"0","0"]
 "#;
 
+/// 10 ETH give floor(997*10*4000000 / (10^9 + 997*10)) = 39 USD, and 1 USD gives floor(997*1000000
+/// / (4*10^9 + 997)) = 0 ETH.
 const REFUSES_EXACT_INPUTS_IN_THE_LISTED_ORDER: &str = r#"
 ["time",10]
 => [7,"ok"]
@@ -78,6 +83,7 @@ const REFUSES_EXACT_INPUTS_IN_THE_LISTED_ORDER: &str = r#"
 => [27,"no",20,"OVERFLOW"]
 "#;
 
+/// 39 USD take floor(10^9*39 / (997*3999961)) + 1 = 10 ETH.
 const REFUSES_EXACT_OUTPUTS_IN_THE_LISTED_ORDER: &str = r#"
 ["time",10]
 => [7,"ok"]
@@ -115,6 +121,8 @@ const REFUSES_EXACT_OUTPUTS_IN_THE_LISTED_ORDER: &str = r#"
 => [23,"ok",39]
 "#;
 
+/// 10 ETH ask for 40 USD, 39 USD for floor(39/4) = 9 ETH, 3 USD for none; 1 ETH and 4 USD make 2
+/// shares. The roots of 1000^2 and 1001^2 leave 0 shares and 1.
 const REFUSES_ADDITIONS_IN_THE_LISTED_ORDER: &str = r#"
 ["time",10]
 => [7,"ok"]
@@ -158,6 +166,7 @@ const REFUSES_ADDITIONS_IN_THE_LISTED_ORDER: &str = r#"
 => [26,"no",20,"OVERFLOW"]
 "#;
 
+/// The 500 A that lay there count for the shares too: the root of 2000*2000, less 1000.
 const LOOKS_AT_THE_RESERVES_OF_A_NEW_PAIR: &str = r#"
 ["deposit","alice","A",50000]
 => [1,"ok",50000,50000]
@@ -189,6 +198,8 @@ const LOOKS_AT_THE_RESERVES_OF_A_NEW_PAIR: &str = r#"
 => [14,"no",16,"INSUFFICIENT_LIQUIDITY"]
 "#;
 
+/// 2 of 2000000 shares are 1 ETH and 4 USD; with the 200 that lie there, 202 of 1999998 are
+/// floor(202*999999/1999998) = 101 ETH and 404 USD.
 const REFUSES_REMOVALS_IN_THE_LISTED_ORDER: &str = r#"
 ["time",10]
 => [7,"ok"]
@@ -224,6 +235,8 @@ const REFUSES_REMOVALS_IN_THE_LISTED_ORDER: &str = r#"
 => [22,"no",20,"OVERFLOW"]
 "#;
 
+/// 1 USD gives floor(997*1000000 / (4*10^9 + 997)) = 0 ETH; floor(10^9*3999999 / (997*1)) + 1 =
+/// 4012035105316.
 const REFUSES_QUOTES_IN_THE_LISTED_ORDER: &str = r#"
 ["quoteout",["ETH","ETH"],0]
 => [7,"no",9,"IDENTICAL"]

@@ -1,7 +1,10 @@
-//! The router: swaps along paths, quotes, liquidity with minimums.
+//! The router: swaps along paths, quotes, liquidity with minimums. What was worked out by hand has
+//! its derivation beside it.
 use super::session::{ETH_USD, is_transcript};
 use std::test::Fail;
 
+/// floor(997*10000*4000000 / (1000*1000000 + 997*10000)) = floor(39880000000000 / 1009970000) =
+/// 39486.
 const SWAPS_AN_EXACT_INPUT: &str = r#"
 ["swapin","alice",["ETH","USD"],10000,39487,"alice",0]
 => [7,"no",15,"INSUFFICIENT_OUTPUT_AMOUNT"]
@@ -13,17 +16,22 @@ const SWAPS_AN_EXACT_INPUT: &str = r#"
 => [10,"ok",4039486]
 "#;
 
+/// floor(1000*1000000*39486 / (997*(4000000-39486))) + 1 = floor(39486000000000 / 3948632458) + 1 =
+/// 10000.
 const SWAPS_FOR_AN_EXACT_OUTPUT: &str = r#"
 ["swapout","alice",["ETH","USD"],39486,9999,"alice",0]
 => [7,"no",27,"EXCESSIVE_INPUT_AMOUNT"]
-["swapout","alice",["ETH","USD"],39486,10000,"bob",0]
+["swapout","alice",["ETH","USD"],39486,10000,"alice",0]
 => [8,"ok",[10000,39486]]
 ["balance","ETH","alice"]
 => [9,"ok",990000]
-["balance","USD","bob"]
-=> [10,"ok",39486]
+["balance","USD","alice"]
+=> [10,"ok",4039486]
 "#;
 
+/// The root of 997000*2000 is 44654. floor(1000*997000*1000 / (997*1000)) + 1 = 1000001, where the
+/// division leaves nothing over; and floor(997*1000000*2000 / (1000*997000 + 997*1000000)) = 1000,
+/// so the least input is one less.
 const QUOTES_ONE_UNIT_MORE: &str = r#"
 ["deposit","alice","ETH",997000]
 => [1,"ok",997000,997000]
@@ -45,6 +53,8 @@ const QUOTES_ONE_UNIT_MORE: &str = r#"
 => [9,"no",16,"INSUFFICIENT_LIQUIDITY"]
 "#;
 
+/// The root of (2^48-1)*100 is 167772159. floor(1000*(2^48-1)*y / (997*(100-y))) + 1 is
+/// 3750848665151299 for 93 and 4423043766432894 for 94; for 99 it is near 2.8*10^16, above 2^52-1.
 const LIMITS_THE_FIRST_AMOUNT: &str = r#"
 ["deposit","alice","ETH",281474976710655]
 => [1,"ok",281474976710655,281474976710655]
@@ -68,13 +78,18 @@ const LIMITS_THE_FIRST_AMOUNT: &str = r#"
 => [10,"ok",[4423043766432894,94]]
 "#;
 
+/// What a hop sends to its own pool is no output: it comes back as an input, less than the rule of
+/// the product asks for, or none.
 const PAYS_INTO_THE_NEXT_POOL_OF_A_PATH: &str = r#"
+["swap","alice","ETH/USD",0,1000,"ETH/USD"]
+=> [7,"no",19,"K"]
 ["swapin","alice",["ETH","USD","ETH"],10000,0,"alice",0]
-=> [7,"no",18,"INSUFFICIENT_INPUT_AMOUNT"]
+=> [8,"no",18,"INSUFFICIENT_INPUT_AMOUNT"]
 ["balance","ETH","alice"]
-=> [8,"ok",1000000]
+=> [9,"ok",1000000]
 "#;
 
+/// 200000 of 2000000 shares, and then of 1800000, are 100000 ETH and 400000 USD.
 const REMOVES_IN_THE_CALLERS_ORDER: &str = r#"
 ["remove","alice","USD","ETH",200000,0,100001,"alice",0]
 => [7,"no",25,"INSUFFICIENT_B_AMOUNT"]
@@ -94,6 +109,9 @@ const REMOVES_IN_THE_CALLERS_ORDER: &str = r#"
 => [14,"ok",1599000]
 "#;
 
+/// floor(1000*4000000 / 1000000) = 4000 USD for 1000 ETH, and 2000000/1000 = 2000 shares;
+/// floor(3000*1001000 / 4004000) = 750 ETH for 3000 USD. Over the 10 seconds after the first add
+/// the prices are 4 and 1/4: 10*4*2^48 and 10*2^46.
 const ADDS_IN_THE_RELATION_OF_THE_RESERVES: &str = r#"
 ["add","alice","ETH","USD",1000,5000,0,4000,"alice",0]
 => [7,"ok",1000,4000,2000]
@@ -115,31 +133,41 @@ const ADDS_IN_THE_RELATION_OF_THE_RESERVES: &str = r#"
 => [15,"ok",1002500,4010000,1002500,4010000,2005000,"0",10,"11258999068426240","703687441776640"]
 "#;
 
+/// floor(999*10000*4000000 / (10^9 + 999*10000)) = 39564 at the fee of 1, and 39486 at that of 3.
+/// Back from 4000 USD: floor(10^9*4000 / (997*3996000)) + 1 = 1005 ETH, and floor(4*10^9*1005 /
+/// (999*998995)) + 1 = 4029 USD. 1000 of 2000000 shares are floor(4004029/2000) = 2002 USD and
+/// floor(998995/2000) = 499 ETH.
 const TRADES_AT_EACH_POOLS_FEE: &str = r#"
 ["create","bob","ETH","USD",1]
 => [7,"ok","ETH/USD:1"]
 ["create","bob","USD","ETH",3]
 => [8,"no",10,"PAIR_EXISTS"]
+["create","bob","ETH","USD",2]
+=> [9,"no",2,"BAD_COMMAND"]
 ["add","alice","ETH","USD",1000000,4000000,0,0,"alice",0,1]
-=> [9,"ok",1000000,4000000,1999000]
+=> [10,"ok",1000000,4000000,1999000]
 ["quoteout",["ETH",1,"USD"],10000]
-=> [10,"ok",[10000,39564]]
+=> [11,"ok",[10000,39564]]
 ["quoteout",["ETH","USD"],10000]
-=> [11,"ok",[10000,39486]]
+=> [12,"ok",[10000,39486]]
+["pool","ETH/USD:3"]
+=> [13,"no",2,"BAD_COMMAND"]
 ["pool","ETH/USD:1"]
-=> [12,"ok",1000000,4000000,1000000,4000000,2000000,"0",0,"0","0"]
+=> [14,"ok",1000000,4000000,1000000,4000000,2000000,"0",0,"0","0"]
 ["deposit","alice","USD",5000]
-=> [13,"ok",5000,8005000]
+=> [15,"ok",5000,8005000]
 ["swapout","alice",["USD",1,"ETH",3,"USD"],4000,5000,"bob",0]
-=> [14,"ok",[4029,1005,4000]]
+=> [16,"ok",[4029,1005,4000]]
 ["balance","USD","bob"]
-=> [15,"ok",4000]
+=> [17,"ok",4000]
 ["remove","alice","USD","ETH",1000,0,0,"alice",0,1]
-=> [16,"ok",2002,499]
+=> [18,"ok",2002,499]
 ["remove","alice","USD","ETH",1000,0,0,"alice",0,10]
-=> [17,"no",13,"NO_PAIR"]
+=> [19,"no",13,"NO_PAIR"]
 "#;
 
+/// The amounts are those of `scripts/model.py`; each hop is one division of the formulas in
+/// docs/LEDGER.md.
 const GOES_ALONG_EIGHT_TOKENS: &str = r#"
 ["deposit","alice","T1",9000000]
 => [1,"ok",9000000,9000000]

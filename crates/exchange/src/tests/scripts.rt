@@ -4,7 +4,7 @@ use super::morning::MORNING;
 use super::session::{ETH_USD, is_run, is_transcript};
 use std::test::Fail;
 
-/// One unit decides whether a loan is given back.
+/// One unit decides whether a loan is given back: 997*x >= 1000*1000 holds from x = 1004 on.
 const PAID_BACK: &str = r#"
 ["flash","alice","ETH/USD",1000,0,[["transfer","alice","ETH","ETH/USD",1003]]]
 => [7,"no",19,"K"]
@@ -16,7 +16,8 @@ const PAID_BACK: &str = r#"
 => [10,"ok",999996]
 "#;
 
-/// A lent pool is locked; a loan inside a loan is given back first.
+/// A lent pool is locked; a loan inside a loan is given back first. 997*x >= 1000*2000 holds from x
+/// = 2007 on, and 1000000 - 500000 - 4 - 7 = 499989.
 const NESTED: &str = r#"
 ["flash","alice","ETH/USD",1000,0,[["mint","alice","ETH/USD","alice"]]]
 => [7,"no",14,"LOCKED"]
@@ -56,8 +57,8 @@ fn repeat(text: &str, times: u64, to: &mut Vec<u8>) -> Result<(), Fail> {
     Ok(())
 }
 
-/// Eight loans deep and 256 steps are read, and meet a pool that is not there; more are no command, and neither is a step of
-/// another user.
+/// Eight loans deep and 256 steps are read, and meet a pool that is not there; more are no command,
+/// and neither is a step of another user.
 #[test]
 fn counts_steps_and_depth(rt: HostRuntime) -> Result<(), Fail> {
     let mut input = Vec::new(rt.alloc());
@@ -90,7 +91,8 @@ const POOLS: [(&str, &str, &str); 8] = [
     ("A/D:1", "D", "1"),
 ];
 
-/// Seven loans inside one, eight payments and 241 transfers of nothing: 256 steps.
+/// Seven loans inside one, eight payments and 241 transfers of nothing: 256 steps. Each loan of
+/// 1000 asks for at most 1011 back, since 990*1011 >= 1000*1000.
 #[test]
 fn lends_eight_deep_with_256_steps(rt: HostRuntime) -> Result<(), Fail> {
     let mut input = Vec::new(rt.alloc());

@@ -4,7 +4,8 @@ use amm_engine::{Seed, Status};
 use amm_io::{SureSink, SureSource};
 use std::test::Fail;
 
-/// The opening of many sessions: a pool of 1,000,000 ETH and 4,000,000 USD, and as much left to alice.
+/// The opening of many sessions: a pool of 1,000,000 ETH and 4,000,000 USD, and as much left to
+/// alice.
 pub const ETH_USD: &str = r#"
 ["deposit","alice","ETH",2000000]
 => [1,"ok",2000000,2000000]
@@ -44,8 +45,8 @@ pub fn is_run(rt: &HostRuntime, input: Vec<u8>, output: &[u8]) -> Result<bool, F
     Ok(status == Status::Done && sink.bytes() == output)
 }
 
-/// Whether a run over the lines of the parts, in order, has just their replies. A reply stands behind an arrow, below its line;
-/// empty lines are left out.
+/// Whether a run over the lines of the parts, in order, has just their replies. A reply stands
+/// behind an arrow, below its line; empty lines are left out.
 pub fn is_transcript(rt: &HostRuntime, parts: &[&str]) -> Result<bool, Fail> {
     let mut input = Vec::new(rt.alloc());
     let mut output = Vec::new(rt.alloc());
