@@ -1,5 +1,9 @@
-use crate::{IoEnd, Lines, MemSink, MemSource, Source, SureSource, WriteEnd, write_all};
+//! Lines of sources that are cut and fail, and what sinks take.
+use crate::{
+    IoEnd, Lines, MemSink, MemSource, Source, StdSink, StdSource, SureSource, WriteEnd, write_all,
+};
 use amm_model::Line;
+use std::io::Cursor;
 use std::test::Fail;
 
 /// The next lines of a source, each ended by `|`, up to its end and once more.
@@ -88,5 +92,27 @@ fn the_named_calls_fail(rt: HostRuntime) -> Result<(), Fail> {
         assert_eq!(rt; write_all(&mut sink, bytes.as_bytes()), written);
     }
     assert_eq!(rt; sink.bytes(), b"abef".as_slice());
+    Ok(())
+}
+
+/// Over a reader and a writer of std; the writer has room for five bytes, and then takes none.
+#[test]
+fn readers_and_writers_of_std(rt: HostRuntime) -> Result<(), Fail> {
+    let mut source = StdSource::new(b"ab\n\ncd".as_slice());
+    let read = lines_of(&rt, 10, &mut source)?;
+    assert_eq!(rt; read.as_slice(), b"ab|_|cd|END|END|".as_slice());
+
+    let mut room = [0u8; 5];
+    let mut sink = StdSink::new(Cursor::new(room.as_mut_slice()));
+    for (bytes, written) in [
+        ("ab", Ok(())),
+        ("", Ok(())),
+        ("cde", Ok(())),
+        ("f", Err(WriteEnd::WriteFault)),
+    ] {
+        assert_eq!(rt; write_all(&mut sink, bytes.as_bytes()), written);
+    }
+    drop(sink);
+    assert_eq!(rt; room.as_slice(), b"abcde".as_slice());
     Ok(())
 }
