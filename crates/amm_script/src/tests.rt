@@ -1,4 +1,4 @@
-//! Steps on one pool of ETH and USD.
+//! Loans on one pool of ETH and USD, by a step and by a script.
 ghost use Rattle.std.specs.Prelude.{◌≡◌, ◌≤◌, OnOk, IfOk};
 ghost use Rattle.amm_model.specs.CommandView.{move_of_step, moves_of_steps};
 ghost use Rattle.amm_model.specs.Fits.{FitsMove, FitMoves};
@@ -6,7 +6,7 @@ ghost use Rattle.amm_model.specs.declared.limits.TheConstants.{AMOUNT_LIMIT};
 ghost use Rattle.amm_model.specs.Sound.{IsSound};
 ghost use Rattle.amm_state.specs.declared.mark.Mark.{Mark};
 
-use crate::run_step;
+use crate::{ScriptBorrower, flash_script, run_step};
 use amm_model::{
     Answer, Asset, Fault, Holder, PoolName, Refusal, Step, SwapReceipt, TokenName, UserName,
 };
@@ -104,14 +104,17 @@ fn mint(alloc: Global, tx: &mut Tx, names: &Names) -> Result<Answer, Fault>
     run_step(alloc, tx, &names.alice, &step)
 }
 
-// The pool, with 1,000,000 ETH and 4,000,000 USD; alice has as much left.
+// What alice has of ETH beside a million: enough for a balance above what a reserve can be.
+const MORE: u64 = 0x1_0000_0000_0000;
+
+// The pool, with 1,000,000 ETH and 4,000,000 USD; alice has as much left, and more ETH.
 fn open_pool(alloc: Global, tx: &mut Tx, names: &Names) -> Result<(), Fault>
     requires clean { tx.old.mark ≡ Mark.Clean }
     requires sound { IsSound tx.old.present }
     ensures clean { OnOk result (tx.new.mark ≡ Mark.Clean) }
     ensures sound { OnOk result (IsSound tx.new.present) }
 {
-    give(alloc, tx, &names.eth, &names.alice, 2_000_000)?;
+    give(alloc, tx, &names.eth, &names.alice, 2_000_000 + MORE)?;
     give(alloc, tx, &names.usd, &names.alice, 8_000_000)?;
     create(alloc, tx, names)?;
     pay(alloc, tx, names, &names.eth, 1_000_000)?;
@@ -154,25 +157,78 @@ fn two_steps(alloc: Global, first: Step, second: Step) -> Result<Vec<Step>, Faul
     }
 }
 
-// A loan of 1000 ETH whose steps are to sync the pool, where that is asked for, and to pay back n.
-fn lend(alloc: Global, tx: &mut Tx, names: &Names, syncs: bool, n: u64) -> Result<Answer, Fault>
+// A loan of ETH whose steps are to sync the pool, where that is asked for, and to pay back n.
+fn lend(
+    alloc: Global,
+    tx: &mut Tx,
+    names: &Names,
+    out0: u64,
+    syncs: bool,
+    n: u64,
+) -> Result<Answer, Fault>
     requires clean { tx.old.mark ≡ Mark.Clean }
     requires sound { IsSound tx.old.present }
+    requires lent { out0 ≤ AMOUNT_LIMIT }
     requires amount { n ≤ AMOUNT_LIMIT }
 {
     let pool = names.pool;
     let steps = two_steps(alloc, first_step(names, syncs), pays_back(names, n))?;
     let step = Step::Flash {
         pool,
-        out0: 1000,
+        out0,
         out1: 0,
         steps,
     };
     run_step(alloc, tx, &names.alice, &step)
 }
 
-// What is answered to the loan on a new pool.
-fn answer(alloc: Global, names: &Names, syncs: bool, n: u64) -> Result<Answer, Fault>
+// The same loan, with a script as its borrower.
+fn lend_script(
+    alloc: Global,
+    tx: &mut Tx,
+    names: &Names,
+    out0: u64,
+    syncs: bool,
+    n: u64,
+) -> Result<Answer, Fault>
+    requires clean { tx.old.mark ≡ Mark.Clean }
+    requires sound { IsSound tx.old.present }
+    requires amount { n ≤ AMOUNT_LIMIT }
+{
+    let steps = two_steps(alloc, first_step(names, syncs), pays_back(names, n))?;
+    let mut script = ScriptBorrower {
+        actor: names.alice,
+        steps,
+    };
+    flash_script(alloc, tx, &names.pool, out0, 0, &mut script)
+}
+
+// What is answered to the loan on a new pool, by the step and by the script.
+fn answers(
+    alloc: Global,
+    names: &Names,
+    out0: u64,
+    syncs: bool,
+    n: u64,
+) -> (Result<Answer, Fault>, Result<Answer, Fault>)
+    requires lent { out0 ≤ AMOUNT_LIMIT }
+    requires amount { n ≤ AMOUNT_LIMIT }
+{
+    (
+        answer(alloc, names, false, out0, syncs, n),
+        answer(alloc, names, true, out0, syncs, n),
+    )
+}
+
+fn answer(
+    alloc: Global,
+    names: &Names,
+    by_script: bool,
+    out0: u64,
+    syncs: bool,
+    n: u64,
+) -> Result<Answer, Fault>
+    requires lent { out0 ≤ AMOUNT_LIMIT }
     requires amount { n ≤ AMOUNT_LIMIT }
 {
     let Ok(state) = State::new(alloc) else {
@@ -180,15 +236,26 @@ fn answer(alloc: Global, names: &Names, syncs: bool, n: u64) -> Result<Answer, F
     };
     let mut tx = Tx::begin(state);
     let answer = match open_pool(alloc, &mut tx, names) {
-        Ok(()) => lend(alloc, &mut tx, names, syncs, n),
+        Ok(()) if by_script => lend_script(alloc, &mut tx, names, out0, syncs, n),
+        Ok(()) => lend(alloc, &mut tx, names, out0, syncs, n),
         Err(fault) => Err(fault),
     };
     let _ = tx.rollback();
     answer
 }
 
+// Whether the answer is this receipt.
+fn is_paid(answer: &Result<Answer, Fault>, want: &SwapReceipt) -> bool {
+    match answer {
+        Ok(Answer::Flash(receipt)) => receipt == want,
+        _ => false,
+    }
+}
+
+/// By a step and by a script: 997*x >= 1000*1000 holds from x = 1004 on. The last row pays back so
+/// much that the balance, 999000 + 2^48 - 1, is above what a reserve can be.
 #[test]
-fn loans_by_steps(rt: HostRuntime) -> Result<(), Fail> {
+fn loans_by_steps_and_scripts(rt: HostRuntime) -> Result<(), Fail> {
     let alloc = rt.alloc();
     let names = read_names(alloc)?;
     let paid = SwapReceipt {
@@ -197,20 +264,25 @@ fn loans_by_steps(rt: HostRuntime) -> Result<(), Fail> {
         out0: 1000,
         out1: 0,
     };
-    match answer(alloc, &names, false, 1004) {
-        Ok(Answer::Flash(receipt)) => assert_eq!(&rt; receipt, paid),
-        _ => assert!(&rt; false, "a loan that is paid back"),
-    }
-    for (syncs, n, why) in [
-        (false, 1003, Refusal::K),
-        (false, 0, Refusal::InsufficientInputAmount),
-        (false, 1_001_001, Refusal::Funds),
-        (true, 1004, Refusal::Locked),
+    let (by_step, by_script) = answers(alloc, &names, 1000, false, 1004);
+    assert!(rt; is_paid(&by_step, &paid), "by a step");
+    assert!(rt; is_paid(&by_script, &paid), "by a script");
+    for (out0, syncs, n, why) in [
+        (0, false, 1004, Refusal::InsufficientOutputAmount),
+        (1_000_000, false, 1004, Refusal::InsufficientLiquidity),
+        (1000, true, 1004, Refusal::Locked),
+        (1000, false, 1_001_001 + MORE, Refusal::Funds),
+        (1000, false, 0, Refusal::InsufficientInputAmount),
+        (1000, false, 1003, Refusal::K),
+        (1000, false, MORE - 1, Refusal::Overflow),
     ] {
-        match answer(alloc, &names, syncs, n) {
-            Err(fault) => assert_eq!(&rt; fault, Fault::Refused(why), "at {n}"),
-            Ok(_) => assert!(&rt; false, "a loan that is refused"),
-        }
+        let (by_step, by_script) = answers(alloc, &names, out0, syncs, n);
+        assert_eq!(rt; by_step.err(), Some(Fault::Refused(why)), "by a step, {n}");
+        assert_eq!(rt;
+            by_script.err(),
+            Some(Fault::Refused(why)),
+            "by a script, {n}"
+        );
     }
     Ok(())
 }
