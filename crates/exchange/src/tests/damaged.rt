@@ -60,11 +60,8 @@ fn tells_bad_json_from_bad_commands(rt: HostRuntime) -> Result<(), Fail> {
 
 #[test]
 fn refuses_bytes_that_are_no_text_and_deep_nesting(rt: HostRuntime) -> Result<(), Fail> {
-    is_run(
-        &rt,
-        b"[\"deposit\",\"al\xffice\",\"ETH\",5]\n".to_vec(rt.alloc())?,
-        b"[1,\"no\",1,\"BAD_JSON\"]\n",
-    )?;
+    let no_text = b"[\"deposit\",\"al\xffice\",\"ETH\",5]\n".to_vec(rt.alloc())?;
+    assert!(rt; is_run(&rt, no_text, b"[1,\"no\",1,\"BAD_JSON\"]\n")?);
     for (depth, reply) in [
         (127, b"[1,\"no\",2,\"BAD_COMMAND\"]\n".as_slice()),
         (128, b"[1,\"no\",1,\"BAD_JSON\"]\n".as_slice()),

@@ -51,6 +51,43 @@ fn replies(rt: &HostRuntime, count: usize) -> Result<Vec<u8>, Fail> {
     Ok(bytes)
 }
 
+/// Four deposits and a sink that fails at its third write; one deposit, a cut second, and a failed
+/// read behind it.
+#[test]
+fn stops_at_the_failing_call(rt: HostRuntime) -> Result<(), Fail> {
+    let words = words(&rt, "run")?;
+    let deposit = "[\"deposit\",\"alice\",\"ETH\",5]\n";
+    let mut source = SureSource::new(deposit.as_bytes().repeat(rt.alloc(), 4)?);
+    let mut sink = MemSink::new(rt.alloc(), vec![in rt.alloc(); 2]?);
+    let status = exchange(
+        rt.alloc(),
+        Seed::new(0),
+        words.as_slice(),
+        &mut source,
+        &mut sink,
+    );
+    assert_eq!(rt; status, Status::WriteFault);
+    assert_eq!(rt;
+        sink.bytes(),
+        b"[1,\"ok\",5,5]\n[2,\"ok\",10,10]\n".as_slice()
+    );
+
+    let mut input = deposit.as_bytes().to_vec(rt.alloc())?;
+    input.extend_from_slice(b"[\"deposit\",\"al")?;
+    let mut source = MemSource::new(input, 100, vec![in rt.alloc(); 1]?);
+    let mut sink = SureSink::new(rt.alloc());
+    let status = exchange(
+        rt.alloc(),
+        Seed::new(0),
+        words.as_slice(),
+        &mut source,
+        &mut sink,
+    );
+    assert_eq!(rt; status, Status::ReadFault);
+    assert_eq!(rt; sink.bytes(), b"[1,\"ok\",5,5]\n".as_slice());
+    Ok(())
+}
+
 #[test]
 fn writes_whole_replies_up_to_a_failed_write(rt: HostRuntime) -> Result<(), Fail> {
     let words = words(&rt, "run")?;
@@ -71,7 +108,8 @@ fn writes_whole_replies_up_to_a_failed_write(rt: HostRuntime) -> Result<(), Fail
     Ok(())
 }
 
-/// The 224 bytes come in 32 pieces of 7, and then their end.
+/// The 224 bytes come in 32 pieces of 7, and then their end; so a failed read before piece `j`
+/// leaves the lines that end within `7*j` bytes.
 #[test]
 fn answers_the_lines_ended_before_a_failed_read(rt: HostRuntime) -> Result<(), Fail> {
     let words = words(&rt, "run")?;
