@@ -1,5 +1,6 @@
 -- Steps that are plainly spelled, step by step.
 use Rattle.std.proofs.Common.{◌≡◌, ℕ, ◌+◌, ◌-◌, ◌*◌, ◌<◌, ◌≤◌, List, [], ◌∷◌, ◌++◌, map, true, Ok, refl, sym, ap, ap₂, ◌∙◌, append_assoc, arith}
+use Rattle.std.specs.Prelude.{IsTrue}
 use Rattle.std.specs.Str.{bytes_eq}
 use Rattle.std.proofs.lemmas.List.{map-append}
 use Rattle.std.proofs.lemmas.Slice.Eq.{bytes_eq-Decides}
@@ -13,12 +14,20 @@ use Rattle.amm_model.specs.Json.{each, elements, list}
 use Rattle.amm_model.specs.CommandView.{Move, Moves, moves_of}
 use Rattle.amm_model.specs.Reading.{as_step, as_steps, move_row, step_row}
 use Rattle.amm_model.proofs.Each.{each-push}
-use Rattle.amm_command.specs.Spelled.{spelled, first_spelled, rest_spelled, leading, step_value, steps_values, move_kind, move_values, IsPlain, ArePlain, inner_depth}
+use Rattle.amm_command.specs.Spelled.{spelled, first_spelled, rest_spelled, leading, IsPlain, ArePlain, inner_depth}
+use Rattle.amm_command.specs.Rows.{step_value, steps_values, move_kind, move_values}
+use Rattle.amm_names.specs.Names.{is_user_name}
+use Rattle.json.specs.Print.{escape}
+use Rattle.amm_command.specs.declared.plain.kind.StepKind.{StepKind}
+use Rattle.amm_command.specs.Kinds.{step_word}
+use Rattle.amm_command.specs.Taken.{MoveTaken}
 use Rattle.amm_command.specs.Loans.{StepRead, Steps, StepsLead, StepsRead}
+use Rattle.amm_command.proofs.Words.{escape-step}
+use Rattle.amm_command.proofs.Names.{escape-user}
 use Rattle.amm_command.proofs.Lists.{elements-items_of, items_plain, plain-append, depth-append, leading-push, first-leading}
 use Rattle.amm_command.proofs.Steps.{as_steps-some}
 
-values_of : (actor : List ℕ) (ms : List Move) → steps_values actor (moves_of ms) ≡ map (step_value actor) ms
+pub values_of : (actor : List ℕ) (ms : List Move) → steps_values actor (moves_of ms) ≡ map (step_value actor) ms
 values_of actor [] = refl
 values_of actor (m ∷ ms) = ap (λ vs. step_value actor m ∷ vs) (values_of actor ms)
 
@@ -59,17 +68,20 @@ lead-last loans actor old mid late new ms m h step is =
 -- ---- a step by its parts
 
 pub step_read :
-    (loans : ℕ) (actor who kind : List ℕ) (old a b c new : List Lexeme) (m : Move) → old ≡ lexemes.token tokens.begin_array ∷ a → a ≡ lexemes.token (tokens.string kind) ∷ b → b ≡ lexemes.comma ∷ lexemes.token (tokens.string who) ∷ c →
-    who ≡ actor → c ≡ rest_spelled (move_values actor m) ++ new → move_kind m ≡ kind → move_row (as_steps loans actor) kind (move_values actor m) ≡ Ok m → ArePlain (move_values actor m) → inner_depth (move_values actor m) ≤ 2 * loans + 1 →
-    StepRead loans actor old new m
+    (loans : ℕ) (actor who word : List ℕ) (kind : StepKind) (old a b c new : List Lexeme) (m : Move) → old ≡ lexemes.token tokens.begin_array ∷ a →
+    (escape word ≡ word → a ≡ lexemes.token (tokens.string word) ∷ b) → word ≡ step_word kind → (escape who ≡ who → b ≡ lexemes.comma ∷ lexemes.token (tokens.string who) ∷ c) →
+    who ≡ actor → IsTrue (is_user_name actor) → MoveTaken (2 * loans + 1) actor (step_word kind) (move_row (as_steps loans actor) (step_word kind)) c new m → StepRead loans actor old new m
 unfolding as_step
-step_read loans actor who kind old a b c new m opened first second same rest is fits plain flat =
+step_read loans actor who word kind old a b c new m opened first word_is second same user taken =
     let self : bytes_eq actor actor ≡ true = (bytes_eq-Decides actor actor).1 refl in
+    let is = taken.kind_is in
+    let word_plain : escape word ≡ word = ap escape word_is ∙ escape-step kind ∙ sym word_is in
+    let who_plain : escape who ≡ who = ap escape same ∙ escape-user actor user ∙ sym same in
     record {
-      text = opened ∙ ap (λ s. lexemes.token tokens.begin_array ∷ s) (first ∙ ap₂ (λ k s. lexemes.token (tokens.string k) ∷ s) (sym is) (second ∙ ap₂ (λ w s. lexemes.comma ∷ lexemes.token (tokens.string w) ∷ s) same rest));
-      fits = ap (λ ds. step_row (as_steps loans actor) actor ds) (ap (λ ds. string (move_kind m) ∷ string actor ∷ ds) (elements-items_of (move_values actor m))) ∙ rw (self, is) fits;
-      plain = (tt, (tt, items_plain (move_values actor m) plain));
-      shallow = omega (arith, flat);
+      text = opened ∙ ap (λ s. lexemes.token tokens.begin_array ∷ s) (first word_plain ∙ ap₂ (λ k s. lexemes.token (tokens.string k) ∷ s) (word_is ∙ sym is) (second who_plain ∙ ap₂ (λ w s. lexemes.comma ∷ lexemes.token (tokens.string w) ∷ s) same taken.text));
+      fits = ap (λ ds. step_row (as_steps loans actor) actor ds) (ap (λ ds. string (move_kind m) ∷ string actor ∷ ds) (elements-items_of (move_values actor m))) ∙ rw (self, is) taken.fits;
+      plain = (tt, (tt, items_plain (move_values actor m) taken.plain));
+      shallow = omega (arith, taken.flat);
     }
 
 -- ---- the steps of a loan

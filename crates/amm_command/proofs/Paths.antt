@@ -14,7 +14,8 @@ use Rattle.amm_model.specs.declared.path.RoutePath.{RoutePath}
 use Rattle.amm_model.specs.Outcome.{◌>>=◌}
 use Rattle.amm_model.specs.Json.{whole, elements}
 use Rattle.amm_model.specs.Forms.{fitting, as_token, as_fee, Hop, hops, path_along, as_path}
-use Rattle.amm_command.specs.Spelled.{spelled, next_spelled, behind, IsPlain, ArePlain, inner_depth, fee_values, hop_value, hop_values, tokens_behind, path_value}
+use Rattle.amm_command.specs.Spelled.{spelled, next_spelled, behind, IsPlain, ArePlain, inner_depth}
+use Rattle.amm_command.specs.Rows.{fee_values, hop_value, hop_values, tokens_behind, path_value}
 use Rattle.amm_command.proofs.Lists.{behind-append, next-behind, items_plain, plain-append, depth-append, elements-items_of}
 
 abbrev pub AreTokens : List (List ℕ) → Type 0
@@ -77,7 +78,7 @@ so_far-next first old mid new names fees t f h is fee token = record {
   at_fees = fees-push fees f h.at_fees fee;
 }
 
-abbrev path_so : List (List ℕ) → List ℕ → RoutePath
+abbrev pub path_so : List (List ℕ) → List ℕ → RoutePath
 path_so names fees = record { tokens = names; fees = fees }
 
 pub so_far-text :
@@ -118,7 +119,7 @@ fees_so [] (f ∷ fs) even = absurd (omega arith)
 fees_so (t ∷ ts) [] even = absurd (omega arith)
 fees_so (t ∷ ts) (f ∷ fs) even = ap (λ s. f ∷ s) (fees_so ts fs (omega arith))
 
-path_read : (first : List ℕ) (ts : List (List ℕ)) (fs : List ℕ) (ds : List Data) → ds ≡ string first ∷ hop_values ts fs → length fs ≡ length ts → as_token (string first) ≡ Ok first → AreTokens ts → AreFees fs →
+pub path_read : (first : List ℕ) (ts : List (List ℕ)) (fs : List ℕ) (ds : List Data) → ds ≡ string first ∷ hop_values ts fs → length fs ≡ length ts → as_token (string first) ≡ Ok first → AreTokens ts → AreFees fs →
     path_along ds ≡ Ok (path_so (first ∷ ts) fs)
 path_read first ts fs ds is even token names fees = rw (is, token, hops_so ts fs even names fees, tokens_so ts fs even, fees_so ts fs even) refl
 
@@ -130,7 +131,7 @@ so_far-along first old mid names fees h token =
 
 -- ---- it is plain and flat
 
-small_fee : (f : ℕ) → as_fee (whole f) ≡ Ok f → f < 2 ^ 64
+pub small_fee : (f : ℕ) → as_fee (whole f) ≡ Ok f → f < 2 ^ 64
 unfolding as_fee
 small_fee f is = by (is_fee f) refl is
   where
@@ -147,7 +148,7 @@ hop_plain : (b : Bool) (f : ℕ) (t : List ℕ) → f < 2 ^ 64 → ArePlain (if 
 hop_plain true f t small = (tt, tt)
 hop_plain false f t small = (small, (tt, tt))
 
-hops_plain : (ts : List (List ℕ)) (fs : List ℕ) → AreFees fs → ArePlain (hop_values ts fs)
+pub hops_plain : (ts : List (List ℕ)) (fs : List ℕ) → AreFees fs → ArePlain (hop_values ts fs)
 hops_plain [] fs h = tt
 hops_plain (t ∷ ts) [] h = tt
 hops_plain (t ∷ ts) (f ∷ fs) h = plain-append (hop_value f t) (hop_values ts fs) (hop_plain (f == 3) f t (small_fee f h.0)) (hops_plain ts fs h.1)
@@ -156,7 +157,7 @@ hop_flat : (b : Bool) (f : ℕ) (t : List ℕ) → inner_depth (if b then string
 hop_flat true f t = omega arith
 hop_flat false f t = omega arith
 
-hops_flat : (ts : List (List ℕ)) (fs : List ℕ) → inner_depth (hop_values ts fs) ≤ 0
+pub hops_flat : (ts : List (List ℕ)) (fs : List ℕ) → inner_depth (hop_values ts fs) ≤ 0
 hops_flat [] fs = omega arith
 hops_flat (t ∷ ts) [] = omega arith
 hops_flat (t ∷ ts) (f ∷ fs) = depth-append (hop_value f t) (hop_values ts fs) 0 (hop_flat (f == 3) f t) (hops_flat ts fs)

@@ -16,15 +16,11 @@ use Rattle.serde_json.specs.Data.{Data, null, boolean, number, string, array, ob
 use Rattle.serde_json.specs.Read.{read, of_json}
 use Rattle.serde_json.specs.Written.{outline, items_outline, compact_text, items_text}
 use Rattle.serde_json.proofs.Texts.{print-outline}
-use Rattle.amm_names.specs.Names.{is_user_name, is_token_name}
 use Rattle.amm_model.specs.Json.{json_value, elements, list, whole}
-use Rattle.amm_model.specs.Forms.{as_user, as_token, as_amount}
-use Rattle.amm_model.specs.declared.limits.TheConstants.{AMOUNT_LIMIT}
-use Rattle.amm_model.specs.CommandView as view
 use Rattle.amm_model.specs.CommandView.{CommandView}
-use Rattle.amm_model.specs.Fits.{IsAmount}
 use Rattle.amm_model.specs.Reading.{row_of, command_of, command_of_line}
-use Rattle.amm_command.specs.Spelled.{IsPlain, ItemsArePlain, ArePlain, inner_depth, command_kind, command_values, row_value}
+use Rattle.amm_command.specs.Spelled.{IsPlain, ItemsArePlain, ArePlain, inner_depth}
+use Rattle.amm_command.specs.Rows.{command_kind, command_values, row_value}
 use Rattle.amm_command.specs.WellSpelled.{HasUtf8, ItemsHaveUtf8}
 use Rattle.amm_command.proofs.Lists.{elements-items_of, items_plain}
 use Rattle.amm_command.proofs.Readings.{of_json-outline, depth-outline}
@@ -80,28 +76,3 @@ written_back c fits plain flat utf8 =
     let is_plain : IsPlain (row_value c) = (tt, items_plain (command_values c) plain) in
     rw (is_utf8-from_IsUtf8 (compact_text d) (utf8-compact_text d is_plain utf8), read-compact_text d is_plain (omega (arith, flat)))
     (ap (λ ds. row_of (command_kind c) ds) (elements-items_of (command_values c)) ∙ fits)
-
--- ---- its premises, kind by kind
-
-user_reads : (name : List ℕ) → IsTrue (is_user_name name) → as_user (string name) ≡ Ok name
-unfolding as_user
-user_reads name h = rw h refl
-
-token_reads : (name : List ℕ) → IsTrue (is_token_name name) → as_token (string name) ≡ Ok name
-unfolding as_token
-token_reads name h = rw h refl
-
-amount_reads : (n : ℕ) → IsAmount n → as_amount (whole n) ≡ Ok n
-unfolding as_amount
-amount_reads n h =
-    let test : nat_le n AMOUNT_LIMIT ≡ true = grind (arith, nat_tests) in
-    rw test refl
-
-pub deposit_back : (user token : List ℕ) (n : ℕ) → IsTrue (is_user_name user) → IsTrue (is_token_name token) → IsAmount n → IsUtf8 user → IsUtf8 token → command_of_line (compact_text (row_value (view.deposit user token n))) ≡ Ok (view.deposit user token n)
-unfolding row_of
-deposit_back user token n u t h p q =
-    written_back (view.deposit user token n) (rw (user_reads user u, token_reads token t, amount_reads n h) refl) (tt, (tt, (omega (arith, h), tt))) (omega arith) (IsUtf8-are_ascii _ refl, (p, (q, (tt, tt))))
-
-pub time_back : (n : ℕ) → IsAmount n → command_of_line (compact_text (row_value (view.time n))) ≡ Ok (view.time n)
-unfolding row_of
-time_back n h = written_back (view.time n) (rw (amount_reads n h) refl) (omega (arith, h), tt) (omega arith) (IsUtf8-are_ascii _ refl, (tt, tt))

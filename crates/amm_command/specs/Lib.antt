@@ -1,6 +1,9 @@
 pub mod Ahead
-pub mod Seen
 pub mod Spelled
+pub mod Rows
+pub mod Kinds
 pub mod Front
+pub mod Taken
 pub mod Loans
 pub mod WellSpelled
+pub mod Writable

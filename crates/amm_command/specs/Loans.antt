@@ -1,4 +1,4 @@
--- The steps of a loan as they are plainly spelled, and as they are read.
+-- The steps of a loan as they are plainly written, and as they are read.
 use Rattle.std.specs.Prelude.{◌≡◌, ◌≤◌, ◌+◌, ◌*◌, ℕ, List, map, ◌++◌, Ok}
 use Rattle.json.specs.Lex.{Lexeme}
 use Rattle.serde_json.specs.Data.{depth}
@@ -6,7 +6,8 @@ use Rattle.serde_json.specs.View.{items_of}
 use Rattle.amm_model.specs.Json.{each}
 use Rattle.amm_model.specs.CommandView.{Move}
 use Rattle.amm_model.specs.Reading.{as_step, as_steps}
-use Rattle.amm_command.specs.Spelled.{spelled, first_spelled, leading, step_value, IsPlain, ArePlain, inner_depth}
+use Rattle.amm_command.specs.Spelled.{spelled, first_spelled, leading, IsPlain, ArePlain, inner_depth}
+use Rattle.amm_command.specs.Rows.{step_value}
 
 -- a step, taken from the front of a text, where so many loans may be open
 pub record StepRead (loans : ℕ) (actor : List ℕ) (old new : List Lexeme) (m : Move) : Type 0 where

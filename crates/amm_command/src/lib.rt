@@ -1,13 +1,13 @@
-//! Reads the bytes of a line as a command. Bytes that are no JSON, and JSON that fits no row of the table of commands,
-//! are told apart exactly, and a command is read as exactly what its row says.
+//! Reads the bytes of a line as a command. Bytes that are no JSON, and JSON that fits no row of the
+//! table of commands, are told apart exactly, and a command is read as exactly what its row says.
+//!
+//! There are two ways. A line that is plainly written is taken from its front in one pass; any
+//! other is read by `serde_json`, and its value as a row. Both are proved to find the command that
+//! one definition finds, so that how a line is written shows in nothing but its time.
 #![tactic(auto)]
 
-mod cursor;
 mod form;
 mod line;
-mod nested;
-mod number;
-mod part;
 mod path;
 mod plain;
 mod row;
@@ -15,6 +15,7 @@ mod step;
 mod step_row;
 #[cfg(test)]
 mod tests;
-mod value;
+mod written;
 
 pub use line::{LineReader, read_line};
+pub use written::rows_read_back;

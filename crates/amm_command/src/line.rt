@@ -1,68 +1,83 @@
 //! A whole line.
-ghost use Rattle.std.specs.Prelude.{◌≡◌, map};
+ghost use Rattle.std.specs.Prelude.{◌≡◌, map, ok_or};
+ghost use Rattle.amm_model.specs.declared.fault.Refusal.TheVariants.{BadJson};
+ghost use Rattle.amm_model.specs.Json.{json_value};
 ghost use Rattle.amm_model.specs.Outcome.{Gives};
 ghost use Rattle.amm_model.specs.CommandView.{view_of};
 ghost use Rattle.amm_model.specs.Reading.{act_row, row_of, command_of_list, command_of, command_of_line};
-ghost use Rattle.amm_command.specs.Seen.{seen};
+ghost use Rattle.serde_json.specs.View.{view};
 
 use crate::form::{MISFIT, list, text, user};
 use crate::step::{fits, move_row};
-use crate::value::read_value;
 use crate::{plain, row};
-use amm_model::{Command, Fault, Memory};
-use json::{Scratch, Value};
+use amm_model::{Command, Fault, Memory, Refusal};
+use serde_json::Value;
 use std::alloc::Global;
 
-/// Reads lines one after another. What reading takes of memory is kept from line to line.
+/// Reads lines one after another. It keeps nothing from one to the next.
 #[derive(Drop)]
-pub struct LineReader {
-    scratch: Box<Scratch>,
-}
+pub struct LineReader {}
 
 impl LineReader {
     pub fn new(alloc: Global) -> Result<LineReader, Memory> {
-        let scratch = Box::new(alloc, Scratch::new(alloc))?;
-        Ok(LineReader { scratch })
+        Ok(LineReader {})
     }
 
-    /// The command that the bytes of a line are. `BadJson` exactly where they are no JSON, and `BadCommand` exactly where they are JSON
-    /// that fits no row of the table of commands.
+    /// The command that the bytes of a line are, as `read_line` reads it.
     pub fn read(&mut self, alloc: Global, bytes: &[u8]) -> Result<Command, Fault>
         ensures { Gives view_of result (command_of_line bytes.now) }
     {
-        match plain::command(alloc, bytes) {
-            Some(command) => Ok(command),
-            None => self.read_any(alloc, bytes),
-        }
-    }
-
-    /// The same, however the line is written.
-    #[tactic(auto, unfolding(amm_model::specs::Reading::command_of_line))]
-    fn read_any(&mut self, alloc: Global, bytes: &[u8]) -> Result<Command, Fault>
-        ensures { Gives view_of result (command_of_line bytes.now) }
-    {
-        let value = read_value(alloc, bytes, &mut self.scratch)?;
-        command(alloc, &value)
+        read_line(alloc, bytes)
     }
 }
 
-/// The command that the bytes of one line are, as `LineReader::read` reads it.
+/// The command that the bytes of a line are. `BadJson` exactly where they are no JSON, and
+/// `BadCommand` exactly where they are JSON that fits no row of the table of commands.
 pub fn read_line(alloc: Global, bytes: &[u8]) -> Result<Command, Fault>
     ensures { Gives view_of result (command_of_line bytes.now) }
 {
-    LineReader::new(alloc)?.read(alloc, bytes)
+    match plain::command(alloc, bytes) {
+        Some(command) => Ok(command),
+        None => read_any(alloc, bytes),
+    }
+}
+
+/// The same, however the line is written.
+#[tactic(auto, unfolding(amm_model::specs::Reading::command_of_line))]
+fn read_any(alloc: Global, bytes: &[u8]) -> Result<Command, Fault>
+    ensures { Gives view_of result (command_of_line bytes.now) }
+{
+    let value = json(alloc, bytes)?;
+    command(alloc, &value)
+}
+
+/// The value that the bytes are as JSON, read by `serde_json`.
+#[tactic(auto, unfolding(amm_model::specs::Json::json_value))]
+fn json(alloc: Global, bytes: &[u8]) -> Result<Value, Fault>
+    ensures { Gives view result (ok_or (json_value bytes.now) BadJson) }
+{
+    match Value::from_slice(alloc, bytes) {
+        Ok(value) => Ok(value),
+        Err(e) => {
+            if e.is_memory() {
+                Err(Fault::Memory)
+            } else {
+                Err(Fault::Refused(Refusal::BadJson))
+            }
+        }
+    }
 }
 
 #[tactic(auto, unfolding(amm_model::specs::Reading::command_of))]
-fn command(alloc: Global, value: &Value<'_>) -> Result<Command, Fault>
-    ensures { Gives view_of result (command_of (seen value.now)) }
+fn command(alloc: Global, value: &Value) -> Result<Command, Fault>
+    ensures { Gives view_of result (command_of (view value.now)) }
 {
     let values = list(value)?;
     command_of_list(alloc, values)
 }
 
-fn command_of_list(alloc: Global, values: &[Value<'_>]) -> Result<Command, Fault>
-    ensures { Gives view_of result (command_of_list (map seen values.now)) }
+fn command_of_list(alloc: Global, values: &[Value]) -> Result<Command, Fault>
+    ensures { Gives view_of result (command_of_list (map view values.now)) }
 {
     match values {
         [kind, arguments @ ..] => {
@@ -74,8 +89,8 @@ fn command_of_list(alloc: Global, values: &[Value<'_>]) -> Result<Command, Fault
 }
 
 #[tactic(auto, unfolding(amm_model::specs::Reading::row_of))]
-fn row_of(alloc: Global, kind: &str, arguments: &[Value<'_>]) -> Result<Command, Fault>
-    ensures { Gives view_of result (row_of kind.now (map seen arguments.now)) }
+fn row_of(alloc: Global, kind: &str, arguments: &[Value]) -> Result<Command, Fault>
+    ensures { Gives view_of result (row_of kind.now (map view arguments.now)) }
 {
     match kind {
         "deposit" => row::deposit(alloc, arguments),
@@ -94,8 +109,8 @@ fn row_of(alloc: Global, kind: &str, arguments: &[Value<'_>]) -> Result<Command,
     }
 }
 
-fn act(alloc: Global, kind: &str, arguments: &[Value<'_>]) -> Result<Command, Fault>
-    ensures { Gives view_of result (act_row kind.now (map seen arguments.now)) }
+fn act(alloc: Global, kind: &str, arguments: &[Value]) -> Result<Command, Fault>
+    ensures { Gives view_of result (act_row kind.now (map view arguments.now)) }
 {
     match arguments {
         [actor, arguments @ ..] => {

@@ -6,12 +6,12 @@ ghost use Rattle.amm_model.specs.CommandView.{move_of_step, moves_of_steps};
 ghost use Rattle.amm_model.specs.Reading.{move_row, flash_row, as_steps, as_step, step_row, step_count, steps_inside};
 ghost use Rattle.amm_model.specs.declared.limits.TheConstants.{STEP_LIMIT};
 ghost use Rattle.amm_command.specs.Ahead.{room_after};
-ghost use Rattle.amm_command.specs.Seen.{seen};
+ghost use Rattle.serde_json.specs.View.{view};
 
 use crate::form::{MISFIT, amount, list, pool, text};
 use crate::step_row;
 use amm_model::{Fault, Step, UserName};
-use json::Value;
+use serde_json::Value;
 use std::alloc::Global;
 
 /// The row of a kind that can be a step, where so many loans may be open.
@@ -22,10 +22,10 @@ pub fn move_row(
     loans: u32,
     actor: &UserName,
     kind: &str,
-    arguments: &[Value<'_>],
+    arguments: &[Value],
 ) -> Result<Step, Fault>
     ensures { Gives move_of_step result
-        (move_row (as_steps loans actor.now) kind.now (map seen arguments.now)) }
+        (move_row (as_steps loans actor.now) kind.now (map view arguments.now)) }
 {
     match kind {
         "transfer" => step_row::transfer(alloc, arguments),
@@ -46,14 +46,9 @@ pub fn move_row(
 }
 
 #[cycle(steps)]
-fn flash(
-    alloc: Global,
-    loans: u32,
-    actor: &UserName,
-    arguments: &[Value<'_>],
-) -> Result<Step, Fault>
+fn flash(alloc: Global, loans: u32, actor: &UserName, arguments: &[Value]) -> Result<Step, Fault>
     ensures { Gives move_of_step result
-        (flash_row (as_steps loans actor.now) (map seen arguments.now)) }
+        (flash_row (as_steps loans actor.now) (map view arguments.now)) }
 {
     match arguments {
         [pool, out0, out1, steps] => flash_of(alloc, loans, actor, pool, out0, out1, steps),
@@ -66,13 +61,13 @@ fn flash_of(
     alloc: Global,
     loans: u32,
     actor: &UserName,
-    pool_value: &Value<'_>,
-    out0: &Value<'_>,
-    out1: &Value<'_>,
-    steps_value: &Value<'_>,
+    pool_value: &Value,
+    out0: &Value,
+    out1: &Value,
+    steps_value: &Value,
 ) -> Result<Step, Fault>
     ensures { Gives move_of_step result (flash_row (as_steps loans actor.now)
-        (seen pool_value.now ∷ seen out0.now ∷ seen out1.now ∷ seen steps_value.now ∷ [])) }
+        (view pool_value.now ∷ view out0.now ∷ view out1.now ∷ view steps_value.now ∷ [])) }
 {
     Ok(Step::Flash {
         pool: pool(alloc, pool_value)?,
@@ -84,9 +79,9 @@ fn flash_of(
 
 /// The steps of a loan, where so many loans may be open, it among them.
 #[cycle(steps)]
-fn steps(alloc: Global, loans: u32, actor: &UserName, value: &Value<'_>) -> Result<Vec<Step>, Fault>
+fn steps(alloc: Global, loans: u32, actor: &UserName, value: &Value) -> Result<Vec<Step>, Fault>
     ensures { Gives (λ v. moves_of_steps v.items) result
-        (as_steps loans actor.now (seen value.now)) }
+        (as_steps loans actor.now (view value.now)) }
 {
     if loans == 0 {
         return Err(MISFIT);
@@ -100,10 +95,10 @@ fn each_step(
     alloc: Global,
     loans: u32,
     actor: &UserName,
-    values: &[Value<'_>],
+    values: &[Value],
 ) -> Result<Vec<Step>, Fault>
     ensures { Gives (λ v. map move_of_step v.items) result
-        (each (as_step (as_steps loans actor.now) actor.now) (map seen values.now)) }
+        (each (as_step (as_steps loans actor.now) actor.now) (map view values.now)) }
 {
     let mut found = Vec::new(alloc);
     for value in values {
@@ -114,18 +109,18 @@ fn each_step(
 
 #[cycle(steps)]
 #[tactic(auto, unfolding(amm_model::specs::Reading::as_step))]
-fn step(alloc: Global, loans: u32, actor: &UserName, value: &Value<'_>) -> Result<Step, Fault>
+fn step(alloc: Global, loans: u32, actor: &UserName, value: &Value) -> Result<Step, Fault>
     ensures { Gives move_of_step result
-        (as_step (as_steps loans actor.now) actor.now (seen value.now)) }
+        (as_step (as_steps loans actor.now) actor.now (view value.now)) }
 {
     let values = list(value)?;
     step_of(alloc, loans, actor, values)
 }
 
 #[cycle(steps)]
-fn step_of(alloc: Global, loans: u32, actor: &UserName, values: &[Value<'_>]) -> Result<Step, Fault>
+fn step_of(alloc: Global, loans: u32, actor: &UserName, values: &[Value]) -> Result<Step, Fault>
     ensures { Gives move_of_step result
-        (step_row (as_steps loans actor.now) actor.now (map seen values.now)) }
+        (step_row (as_steps loans actor.now) actor.now (map view values.now)) }
 {
     match values {
         [kind, who, arguments @ ..] => {
