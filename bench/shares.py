@@ -20,7 +20,8 @@ from trades import flash, opening, swap_along
 LINES = 20_000
 # The first that fits names a function's group.
 GROUPS = [
-    ("json: the text of a line as a value", r"^(json|fast_float|simdutf8|core::str|amm_command::(value|number|nested|json))"),
+    ("amm_command, the short way: a plain line as a command", r"^amm_command::plain"),
+    ("serde_json: the text of a line as a value", r"^(serde_json|json|fast_float|ryu|simdutf8|core::str)"),
     ("amm_command: a value as a command", r"^amm_command"),
     ("amm_names: names read, compared, joined", r"^amm_names"),
     ("amm_state, indexmap: rows looked up and changed", r"^(amm_state|indexmap)"),
@@ -32,10 +33,20 @@ GROUPS = [
 ]
 
 
+def left_to_the_general_reader(lines):
+    """The same lines with a blank before the last bracket, which the short way finds out at the end."""
+    return (f"{line[:-1]} ]" for line in lines)
+
+
 def kinds():
     draw = random.Random(7)
     return [
         ("transfer", lambda: itertools.islice(plain_lines(1000, 1000 + LINES), 1000, None), lambda: plain_lines(1000, 1000)),
+        (
+            "transfer, left to the general reader at its end",
+            lambda: left_to_the_general_reader(itertools.islice(plain_lines(1000, 1000 + LINES), 1000, None)),
+            lambda: plain_lines(1000, 1000),
+        ),
         ("swapin, 2 hops", lambda: (swap_along(2)(draw) for _ in range(LINES)), opening),
         ("flash, 2 loans", lambda: (flash(2)(draw) for _ in range(LINES)), opening),
     ]
