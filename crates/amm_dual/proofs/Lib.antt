@@ -1,3 +1,4 @@
 pub mod Worths
 pub mod Numbers
 pub mod Steps
+pub mod Duality

@@ -8,8 +8,11 @@ use Rattle.amm_model.specs.Routing.{OpenView, IsOpenProblem, ArePrices}
 use Rattle.amm_model.specs.Bound.{bound_of, price_of}
 use Rattle.amm_model.specs.Settled.{IsMove, IsSettled, moved, stepped, turned}
 use Rattle.amm_dual.specs.declared.moves.Move.{Move}
-use Rattle.amm_dual.specs.Running.{RunningView}
-use Rattle.amm_dual.specs.Moves.{Helps, NoHelpAt, NoHelpBelow, move_of, turns_of}
+use Rattle.std.proofs.lemmas.List.Elements.{All-set}
+use Rattle.amm_dual.specs.declared.changes.Change.{Change}
+use Rattle.amm_dual.specs.declared.changes.Changes.{Changes}
+use Rattle.amm_dual.specs.Running.{RunningView, after}
+use Rattle.amm_dual.specs.Moves.{Helps, NoHelpAt, NoHelpBelow, move_of, turns_of, turns_with}
 use Rattle.amm_model.specs.Routing.{no_pool, token0_of, token1_of}
 use Rattle.amm_model.proofs.Problems.{token_at, tokens_differ, tokens_there}
 use Rattle.std.specs.Prelude.{IfSome}
@@ -132,3 +135,70 @@ pub unit-either : (b : Bool) (problem next : OpenView) (prices after : List ℕ)
 unit-either true problem next prices after step same is_move taken kept = unit-kept problem next prices after step same is_move (taken refl)
 unit-either false problem next prices after step same is_move taken kept =
     ap (λ (o : OpenView). price_of o.tokens after o.t) same ∙ ap (λ (ps : List ℕ). price_of problem.tokens ps problem.t) (kept refl)
+
+-- changes to prices in range leave prices
+pub ranges-after : (prices : List ℕ) (changes : Changes) → ArePrices prices → (1 ≤ changes.first.price) × (changes.first.price < 2 ^ 40) → (1 ≤ changes.second.price) × (changes.second.price < 2 ^ 40) →
+    ArePrices (after prices changes)
+ranges-after prices changes are first second =
+    All-set (λ (p : ℕ). (1 ≤ p) × (p < 2 ^ 40)) (set prices changes.first.place changes.first.price) changes.second.place changes.second.price second
+    (All-set (λ (p : ℕ). (1 ≤ p) × (p < 2 ^ 40)) prices changes.first.place changes.first.price first are)
+
+-- what one turn makes of the prices, and what two make
+abbrev pub IsTurnOf : List ℕ → ℕ → Turn → Change → Type 0
+IsTurnOf prices k turn change = (change.place ≡ turn.place) × (change.price ≡ stepped k turn.up (get_or prices turn.place 0)) × (1 ≤ change.price) × (change.price < 2 ^ 40)
+
+turned-by : (prices : List ℕ) (k : ℕ) (turn : Turn) (change : Change) → IsTurnOf prices k turn change → set prices change.place change.price ≡ turned k prices turn
+turned-by prices k turn change is = ap (λ (p : ℕ). set prices p change.price) is.0 ∙ ap (set prices turn.place) is.1
+
+pub one-turn : (prices : List ℕ) (k : ℕ) (turn : Turn) (change : Change) → IsTurnOf prices k turn change →
+    (let changes : Changes = record { first = change; second = change } in after prices changes ≡ turned k prices turn)
+one-turn prices k turn change is = set-set prices change.place change.price change.price ∙ turned-by prices k turn change is
+
+pub two-turns : (prices : List ℕ) (k : ℕ) (one two : Turn) (first second : Change) → two.place ≢ one.place → IsTurnOf prices k one first → IsTurnOf prices k two second →
+    (let changes : Changes = record { first = first; second = second } in after prices changes ≡ turned k (turned k prices one) two)
+two-turns prices k one two first second apart is also =
+    let same : get_or (turned k prices one) two.place 0 ≡ get_or prices two.place 0 = get_or-set_other prices one.place two.place _ 0 apart in
+    let price : second.price ≡ stepped k two.up (get_or (turned k prices one) two.place 0) = also.1 ∙ ap (stepped k two.up) (sym same) in
+    ap (λ (ps : List ℕ). set ps second.place second.price) (turned-by prices k one first is)
+    ∙ ap (λ (p : ℕ). set (turned k prices one) p second.price) also.0 ∙ ap (set (turned k prices one) two.place) price
+
+-- a turn to what is no price
+abbrev pub IsNoTurn : List ℕ → ℕ → Turn → Type 0
+IsNoTurn prices k turn = (1 ≤ stepped k turn.up (get_or prices turn.place 0)) → (stepped k turn.up (get_or prices turn.place 0) < 2 ^ 40) → ⊥
+
+pub no-first : (prices : List ℕ) (k : ℕ) (first : Turn) (second : Option Turn) → first.place < length prices → IfSome second (λ turn. (turn.place < length prices) × (turn.place ≢ first.place)) →
+    IsNoTurn prices k first → ArePrices (moved k prices (turns_with first second)) → ⊥
+no-first prices k first None below apart none are = let range = set-in-range prices first.place _ below are in none range.0 range.1
+no-first prices k first (Some second) below apart none are = let range = first-in-range prices first.place _ second.place _ below apart.1 are in none range.0 range.1
+
+pub no-second : (prices : List ℕ) (k : ℕ) (first second : Turn) → second.place < length prices → second.place ≢ first.place →
+    IsNoTurn prices k second → ArePrices (turned k (turned k prices first) second) → ⊥
+no-second prices k first second below apart none are =
+    let same : get_or (turned k prices first) second.place 0 ≡ get_or prices second.place 0 = get_or-set_other prices first.place second.place _ 0 apart in
+    let range = set-in-range (turned k prices first) second.place _ (rw (length-set prices first.place) below) are in
+    let found = subst (λ (p : ℕ). (1 ≤ stepped k second.up p) × (stepped k second.up p < 2 ^ 40)) same range in
+    none found.0 found.1
+
+-- a price after changes that leave prices is one
+pub price-in-range : (prices : List ℕ) (changes : Changes) (place : ℕ) → place < length prices → ArePrices (after prices changes) →
+    (1 ≤ get_or (after prices changes) place 0) × (get_or (after prices changes) place 0 < 2 ^ 40)
+price-in-range prices changes place below are =
+    are place 0 (rw (length-set (set prices changes.first.place changes.first.price) changes.second.place changes.second.price, length-set prices changes.first.place changes.first.price) below)
+
+pub no-second-of : (prices : List ℕ) (k : ℕ) (first : Turn) (o : Option Turn) (second : Turn) → o ≡ Some second → IfSome o (λ turn. (turn.place < length prices) × (turn.place ≢ first.place)) →
+    IsNoTurn prices k second → ArePrices (moved k prices (turns_with first o)) → ⊥
+no-second-of prices k first o second is there none =
+    let apart = subst (λ (x : Option Turn). IfSome x (λ turn. (turn.place < length prices) × (turn.place ≢ first.place))) is there in
+    subst (λ (x : Option Turn). ArePrices (moved k prices (turns_with first x)) → ⊥) (sym is) (no-second prices k first second apart.0 apart.1 none)
+
+-- a move of one token
+pub one-step : (prices : List ℕ) (k : ℕ) (first : Turn) (o : Option Turn) (change : Change) → o ≡ None → first.place < length prices → ArePrices prices → IsTurnOf prices k first change →
+    (let changes : Changes = record { first = change; second = change } in
+    (change.place < length prices) × (change.place < length prices) × (after prices changes ≡ moved k prices (turns_with first o)) × ArePrices (after prices changes)
+    × (1 ≤ change.price) × (change.price < 2 ^ 40) × (1 ≤ change.price) × (change.price < 2 ^ 40))
+one-step prices k first o change is below are turn =
+    let changes : Changes = record { first = change; second = change } in
+    let within : change.place < length prices = rw turn.0 below in
+    let same : after prices changes ≡ moved k prices (turns_with first o) =
+    subst (λ (x : Option Turn). after prices changes ≡ moved k prices (turns_with first x)) (sym is) (one-turn prices k first change turn) in
+    (within, within, same, ranges-after prices changes are (turn.2, turn.3) (turn.2, turn.3), turn.2, turn.3, turn.2, turn.3)

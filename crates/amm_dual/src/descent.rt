@@ -1,10 +1,13 @@
 //! Moves the prices down to where no move helps.
-ghost use Rattle.std.specs.Prelude.{◌≡◌, ◌≢◌, ◌↔◌, ℕ, IsTrue, IfOk, IfSome, ◌+◌, ◌-◌, ◌*◌, ◌/◌, ◌<◌, ◌≤◌, ◌^◌, length, max, slice_index, true, false};
+ghost use Rattle.std.specs.Prelude.{◌≡◌, ◌≢◌, ◌↔◌, ℕ, IsTrue, IfOk, IfSome, MatchOption, ◌+◌, ◌-◌, ◌*◌, ◌/◌, ◌<◌, ◌≤◌, ◌^◌, length, max, slice_index, true, false};
 ghost use Rattle.amm_model.specs.Routing.{ArePrices, opened, token_place};
 ghost use Rattle.amm_model.specs.Bound.{bound_of, price_of};
 ghost use Rattle.amm_model.specs.Settled.{IsSettled, moved, stepped as stepped_of, turned};
 ghost use Rattle.amm_dual.specs.Moves.{IsNoHelp, NoHelpBelow, NoHelpAt, Helps, turns_of, move_of};
+ghost use Rattle.amm_dual.specs.Running.{after};
 
+use crate::changes::{Change, Changes};
+use crate::lower::lower_prices;
 use crate::moves::{Move, move_at, move_count};
 use crate::running::Running;
 use amm_model::limits::PRICE_LIMIT;
@@ -21,6 +24,7 @@ pub fn descended(alloc: Global, problem: &OpenProblem, start: &Prices) -> Result
     ensures { IfOk result (λ prices. IsSettled problem.now prices) }
 {
     let mut running = Running::new(alloc, problem, start)?;
+    lower_prices(&mut running);
     while pass(&mut running) {}
     Ok(running.into_prices())
 }
@@ -43,8 +47,9 @@ pub fn open_settled(alloc: Global, problem: &OpenProblem, prices: &Prices) -> Re
         return Ok(false);
     }
     let mut running = Running::new(alloc, problem, prices)?;
+    let before = running.bound();
     for n in 0..move_count(problem) {
-        if improve_at(&mut running, n) {
+        if improve_at(&mut running, n, before) {
             return Ok(false);
         }
     }
@@ -60,18 +65,22 @@ fn pass(running: &mut Running<'_>) -> bool
     ensures steady { result ≡ false → NoHelpBelow running.new.problem running.new.prices (64 * (length running.new.problem.tokens + length running.new.problem.pools)) }
 {
     let count = move_count(running.problem());
+    let mut before = running.bound();
     let mut helped = false;
     for n in 0..count {
-        if improve_at(running, n) {
+        if improve_at(running, n, before) {
             helped = true;
+            before = running.bound();
         }
     }
     helped
 }
 
 // Takes the move of this number, if there is one and it helps; whether it did.
-fn improve_at(running: &mut Running<'_>, n: usize) -> bool
-    requires { n < 64 * (length running.old.problem.tokens + length running.old.problem.pools) }
+fn improve_at(running: &mut Running<'_>, n: usize, before: u128) -> bool
+    requires number { n < 64 * (length running.old.problem.tokens + length running.old.problem.pools) }
+    requires before { before ≡ bound_of running.old.problem running.old.prices }
+    requires below { before < 2 ^ 108 }
     ensures problem { running.new.problem ≡ running.old.problem }
     ensures many { length running.new.prices ≡ length running.old.prices }
     ensures unit { price_of running.new.problem.tokens running.new.prices running.new.problem.t ≡ price_of running.old.problem.tokens running.old.prices running.old.problem.t }
@@ -84,14 +93,16 @@ fn improve_at(running: &mut Running<'_>, n: usize) -> bool
     let Some(step) = move_at(problem, n) else {
         return false;
     };
-    improve(running, step)
+    improve(running, step, before)
 }
 
-// Takes the move if it lowers the bound by more than one part in 65536; whether it did.
-fn improve(running: &mut Running<'_>, step: Move) -> bool
+// Takes the move if it lowers the bound, which is `before`, by more than one part in 65536.
+fn improve(running: &mut Running<'_>, step: Move, before: u128) -> bool
     requires first { step.first.place < length running.old.prices }
     requires second { IfSome step.second (λ turn. (turn.place < length running.old.prices) × (turn.place ≢ step.first.place)) }
     requires size { step.k ≤ 16 }
+    requires before { before ≡ bound_of running.old.problem running.old.prices }
+    requires below { before < 2 ^ 108 }
     ensures problem { running.new.problem ≡ running.old.problem }
     ensures taken { result ≡ true → running.new.prices ≡ moved step.k running.old.prices (turns_of step) }
     ensures ranges { ArePrices running.new.prices }
@@ -99,67 +110,64 @@ fn improve(running: &mut Running<'_>, step: Move) -> bool
     ensures kept { result ≡ false → running.new.prices ≡ running.old.prices }
     ensures steady { result ≡ false → IsNoHelp running.old.problem running.old.prices step }
 {
-    let before = running.bound();
+    let Some(changes) = changes_of(running, step) else {
+        let _ranges = running.price(step.first.place);
+        return false;
+    };
+    if running.bound_after(changes) + before / 65536 >= before {
+        let _ranges = running.price(step.first.place);
+        return false;
+    }
+    running.change(changes);
+    let _ranges = running.price(step.first.place);
+    true
+}
+
+// The prices of a move; None where one of them is no price.
+fn changes_of(running: &Running<'_>, step: Move) -> Option<Changes>
+    requires first { step.first.place < length running.now.prices }
+    requires second { IfSome step.second (λ turn. (turn.place < length running.now.prices) × (turn.place ≢ step.first.place)) }
+    requires size { step.k ≤ 16 }
+    ensures { MatchOption result (¬ ArePrices (moved step.k running.now.prices (turns_of step)))
+        (λ changes. (changes.first.place < length running.now.prices) × (changes.second.place < length running.now.prices)
+        × (after running.now.prices changes ≡ moved step.k running.now.prices (turns_of step))
+        × ArePrices (after running.now.prices changes)
+        × (1 ≤ changes.first.price) × (changes.first.price < 2 ^ 40) × (1 ≤ changes.second.price) × (changes.second.price < 2 ^ 40)) }
+{
+    let Some(first) = change_of(running, step.k, step.first) else {
+        return None;
+    };
     match step.second {
-        None => improve_one(running, step.k, step.first, before),
-        Some(second) => improve_two(running, step.k, step.first, second, before),
+        None => Some(Changes {
+            first,
+            second: first,
+        }),
+        Some(turn) => {
+            let Some(second) = change_of(running, step.k, turn) else {
+                return None;
+            };
+            Some(Changes { first, second })
+        }
     }
 }
 
-// Takes one turn if it brings the bound below `before` by more than one part in 65536.
-fn improve_one(running: &mut Running<'_>, k: u32, turn: Turn, before: u128) -> bool
-    requires place { turn.place < length running.old.prices }
+// The price of a turn; None where it is none.
+fn change_of(running: &Running<'_>, k: u32, turn: Turn) -> Option<Change>
+    requires place { turn.place < length running.now.prices }
     requires size { k ≤ 16 }
-    requires before { before < 2 ^ 108 }
-    ensures problem { running.new.problem ≡ running.old.problem }
-    ensures taken { result ≡ true → running.new.prices ≡ turned k running.old.prices turn }
-    ensures ranges { ArePrices running.new.prices }
-    ensures lower { result ≡ true → bound_of running.new.problem running.new.prices + before / 65536 < before }
-    ensures kept { result ≡ false → running.new.prices ≡ running.old.prices }
-    ensures steady { result ≡ false → ArePrices (turned k running.old.prices turn) → before ≤ bound_of running.old.problem (turned k running.old.prices turn) + before / 65536 }
+    ensures ranges { ArePrices running.now.prices }
+    ensures price { MatchOption result
+        ((1 ≤ stepped_of k turn.up (slice_index running.now.prices turn.place)) → (stepped_of k turn.up (slice_index running.now.prices turn.place) < 2 ^ 40) → ⊥)
+        (λ change. (change.place ≡ turn.place) × (change.price ≡ stepped_of k turn.up (slice_index running.now.prices turn.place)) × (1 ≤ change.price) × (change.price < 2 ^ 40)) }
 {
-    let price = running.price(turn.place);
-    let next = stepped(k, turn.up, price);
-    if next == 0 || next > PRICE_LIMIT {
-        return false;
+    let price = stepped(k, turn.up, running.price(turn.place));
+    if price == 0 || price > PRICE_LIMIT {
+        return None;
     }
-    running.set(turn.place, next);
-    if running.bound() + before / 65536 < before {
-        let _ranges = running.price(turn.place);
-        return true;
-    }
-    running.set(turn.place, price);
-    let _ranges = running.price(turn.place);
-    false
-}
-
-// Takes two turns if together they bring the bound below `before` by more than one part in 65536.
-fn improve_two(running: &mut Running<'_>, k: u32, first: Turn, second: Turn, before: u128) -> bool
-    requires first { first.place < length running.old.prices }
-    requires second { second.place < length running.old.prices }
-    requires apart { second.place ≢ first.place }
-    requires size { k ≤ 16 }
-    requires before { before < 2 ^ 108 }
-    ensures problem { running.new.problem ≡ running.old.problem }
-    ensures taken { result ≡ true → running.new.prices ≡ turned k (turned k running.old.prices first) second }
-    ensures ranges { ArePrices running.new.prices }
-    ensures lower { result ≡ true → bound_of running.new.problem running.new.prices + before / 65536 < before }
-    ensures kept { result ≡ false → running.new.prices ≡ running.old.prices }
-    ensures steady { result ≡ false → ArePrices (turned k (turned k running.old.prices first) second) →
-        before ≤ bound_of running.old.problem (turned k (turned k running.old.prices first) second) + before / 65536 }
-{
-    let price = running.price(first.place);
-    let next = stepped(k, first.up, price);
-    if next == 0 || next > PRICE_LIMIT {
-        return false;
-    }
-    running.set(first.place, next);
-    if improve_one(running, k, second, before) {
-        return true;
-    }
-    running.set(first.place, price);
-    let _ranges = running.price(first.place);
-    false
+    Some(Change {
+        place: turn.place,
+        price,
+    })
 }
 
 // A price one step up or down.

@@ -1,12 +1,19 @@
 //! Prices that settle.
 #![tactic(auto)]
 
+mod changes;
 mod descent;
+mod lower;
 mod moves;
+mod plan;
 mod running;
+mod settling;
 
+pub use changes::{Change, Changes};
 pub use descent::{descended, open_settled, settled};
+pub use plan::{Plan, planned};
 pub use running::Running;
+pub use settling::{are_settled_by, open_search, search, settle};
 
 #[cfg(test)]
 mod tests {

@@ -1,9 +1,10 @@
 //! A problem and prices that change one by one, with the worth of each pool at them.
-ghost use Rattle.std.specs.Prelude.{◌≡◌, ◌≢◌, ℕ, List, ◌+◌, ◌*◌, ◌/◌, ◌<◌, ◌≤◌, ◌^◌, length, map, slice_set, slice_index, IfOk};
+ghost use Rattle.std.specs.Prelude.{◌≡◌, ◌≢◌, ℕ, List, ◌+◌, ◌*◌, ◌/◌, ◌<◌, ◌≤◌, ◌^◌, length, map, slice_set, slice_index, sum_by, IfOk};
 ghost use Rattle.amm_model.specs.Routing.{ArePrices, HasReserves, IsOpenProblem, fee_of};
-ghost use Rattle.amm_model.specs.Bound.{bound_of, pool_worth, worth_of};
-ghost use Rattle.amm_dual.specs.Running.{RunningView};
+ghost use Rattle.amm_model.specs.Bound.{bound_of, part_value, pool_worth, worth_of};
+ghost use Rattle.amm_dual.specs.Running.{RunningView, after};
 
+use crate::changes::{Change, Changes, price_after, worth_after};
 use amm_bound::{parts_value, worth_at};
 use amm_model::{Memory, OpenProblem, Prices, ProblemPool, TokenPlaces};
 use std::alloc::Global;
@@ -98,6 +99,78 @@ impl<'p> Running<'p> {
             value += *w;
         }
         value / self.prices[target] as u128
+    }
+
+    /// The bound after the changes, which are not made.
+    pub fn bound_after(&self, changes: Changes) -> u128
+        requires ranges { ArePrices (after self.now.prices changes) }
+        ensures value { result ≡ bound_of self.now.problem (after self.now.prices changes) }
+        ensures below { result < 2 ^ 108 }
+    {
+        let target = self.problem.target();
+        let value = self.parts_after(changes) + self.pools_after(changes);
+        value / price_after(&self.prices, changes, target) as u128
+    }
+
+    /// The value at another price of one token: what the parts and all pools are worth, in units of
+    /// price. It is not divided and so tells prices apart that have one bound.
+    pub fn value_at(&self, token: usize, price: u64) -> u128
+        requires token { token < length self.now.prices }
+        requires price { (1 ≤ price) × (price < 2 ^ 40) }
+        requires ranges { ArePrices self.now.prices }
+    {
+        let change = Change {
+            place: token,
+            price,
+        };
+        let changes = Changes {
+            first: change,
+            second: change,
+        };
+        self.parts_after(changes) + self.pools_after(changes)
+    }
+
+    /// Makes the changes.
+    pub fn change(&mut self, changes: Changes)
+        requires first { changes.first.place < length self.old.prices }
+        requires second { changes.second.place < length self.old.prices }
+        requires prices { (1 ≤ changes.first.price) × (changes.first.price < 2 ^ 40) × (1 ≤ changes.second.price) × (changes.second.price < 2 ^ 40) }
+        ensures problem { self.new.problem ≡ self.old.problem }
+        ensures prices { self.new.prices ≡ after self.old.prices changes }
+    {
+        self.set(changes.first.place, changes.first.price);
+        self.set(changes.second.place, changes.second.price);
+    }
+
+    // What the parts are worth after the changes.
+    fn parts_after(&self, changes: Changes) -> u128
+        requires ranges { ArePrices (after self.now.prices changes) }
+        ensures value { result ≡ sum_by (part_value self.now.problem.tokens (after self.now.prices changes)) self.now.problem.parts }
+        ensures below { result < 2 ^ 96 }
+    {
+        let parts = self.problem.parts();
+        let places = self.problem.part_places();
+        let mut value: u128 = 0;
+        for i in 0..parts.len() {
+            let price = price_after(&self.prices, changes, places[i]);
+            value += price as u128 * parts[i].amount as u128;
+        }
+        value
+    }
+
+    // The sum of the worths of all pools after the changes.
+    fn pools_after(&self, changes: Changes) -> u128
+        requires ranges { ArePrices (after self.now.prices changes) }
+        ensures value { result ≡ sum_by (pool_worth self.now.problem.tokens (after self.now.prices changes)) self.now.problem.pools }
+        ensures below { result < 2 ^ 107 + 1 }
+    {
+        let pools = self.problem.pools();
+        let places = self.problem.places();
+        let mut value: u128 = 0;
+        for i in 0..pools.len() {
+            value += worth_after(self.worths[i], &pools[i], places[i], &self.prices, changes);
+        }
+        value
     }
 
     /// The prices as set.

@@ -26,6 +26,7 @@ loop-n-preserved c =
     record {
       problem = c.improve_at.ensures.problem ∙ c.loop-n.invariant.problem;
       prices = c.improve_at.ensures.kept c.if-improve_at.false ∙ c.loop-n.invariant.prices;
+      before = c.loop-n.invariant.before;
       none = below_more (λ (m : ℕ). NoHelpAt problem prices m) c.loop-n.n c.loop-n.invariant.none here;
     }
 

@@ -1,4 +1,5 @@
 use Rattle.std.proofs.Common.{◌≡◌}
+use Rattle.amm_model.specs.Bound.{bound_of}
 use Rattle.amm_dual.specs.Moves.{NoHelpBelow}
 use Rattle.amm_dual.proofs.descent.open_settled.Given as goal
 
@@ -6,5 +7,6 @@ abbrev pub invariant-loop-n : goal.invariant-loop-n
 invariant-loop-n l = record {
   problem : l.running.problem ≡ l.problem;
   prices : l.running.prices ≡ l.prices;
+  before : l.before ≡ bound_of l.problem l.prices;
   none : NoHelpBelow l.problem l.prices l.n;
 }

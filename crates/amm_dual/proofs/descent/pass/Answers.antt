@@ -1,5 +1,6 @@
-use Rattle.std.proofs.Common.{ap, ◌∙◌, ◌≡◌, true, false, ◌+◌, ◌*◌, length, sym}
+use Rattle.std.proofs.Common.{ap, ◌∙◌, ◌≡◌, true, false, ◌+◌, ◌*◌, length, sym, arith}
 use Rattle.amm_model.specs.Routing.{OpenView}
+use Rattle.amm_model.specs.Bound.{bound_of}
 use Rattle.amm_dual.proofs.Steps.{lower-after, none-more, same-after}
 use Rattle.amm_dual.proofs.descent.pass.Goals as goal
 use Rattle.amm_dual.proofs.descent.pass.Goals.{then-improve_at, else-improve_at}
@@ -17,6 +18,8 @@ loop-n-preserved c =
         many = c.improve_at.ensures.many ∙ inv.many;
         unit = c.improve_at.ensures.unit ∙ inv.unit;
         count = count;
+        before = w.before-is ∙ w.bound-before-then-improve_at.ensures.value;
+        below = omega (arith, w.before-is, w.bound-before-then-improve_at.ensures.below);
         lower = λ h. lower-after c.loop-n.helped first now next _ inv.lower inv.kept inv.problem (c.improve_at.ensures.lower w.if-improve_at.true);
         kept = λ h. absurd (let e : true ≡ false = cc in cc);
       }
@@ -25,6 +28,8 @@ loop-n-preserved c =
         many = c.improve_at.ensures.many ∙ inv.many;
         unit = c.improve_at.ensures.unit ∙ inv.unit;
         count = count;
+        before = w.before-is ∙ inv.before ∙ ap (λ (o : OpenView). bound_of o now.prices) (sym c.improve_at.ensures.problem) ∙ ap (bound_of next.problem) (sym (c.improve_at.ensures.kept w.if-improve_at.false));
+        below = omega (arith, w.before-is, inv.below);
         lower = λ h. same-after first now next (c.improve_at.ensures.kept w.if-improve_at.false) c.improve_at.ensures.problem (inv.lower cc);
         kept = λ h. (
           c.improve_at.ensures.kept w.if-improve_at.false ∙ (inv.kept cc).0,

@@ -1,0 +1,9 @@
+use Rattle.std.proofs.Common.{◌≤◌, ◌<◌, ◌^◌}
+use Rattle.amm_dual.proofs.lower.least.Given as goal
+
+abbrev pub invariant-loop : goal.invariant-loop
+invariant-loop l = record {
+  least : 1 ≤ l.low;
+  ordered : l.low ≤ l.high;
+  most : l.high < 2 ^ 40;
+}
