@@ -6,7 +6,8 @@ use std::alloc::Global;
 #[test]
 fn worths(rt: HostRuntime) {
     assert_eq!(rt; worth(3, 1000000, 1000000, 1, 1), 0);
-    // A = 10^9 and B = 2*997*10^6: twice the root of A*B is 2824181294, and so floor(169818706/997).
+    // A = 10^9 and B = 2*997*10^6: twice the root of A*B is 2824181294, and so
+    // floor(169818706/997).
     assert_eq!(rt; worth(3, 1000000, 1000000, 1, 2), 170329);
     assert_eq!(rt; worth(3, 1000000, 4000000, 4194304, 1048576), 0);
     assert_eq!(rt; worth(1, 1000000, 1000000, 1, 2), 171158);

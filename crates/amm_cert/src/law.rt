@@ -4,7 +4,8 @@ ghost use Rattle.serde_json.specs.Written.{compact_text};
 ghost use Rattle.amm_model.specs.declared.route.Quote as quote_view;
 ghost use Rattle.amm_model.specs.Certificate.{IsCertifiable, IsCertificateOf, IsVersionFor, certificate_text, versioned_value};
 
-/// The text of a quote is a certificate of that quote; so is its text in any version that its pools may be written in.
+/// The text of a quote is a certificate of that quote; so is its text in any version that its pools
+/// may be written in.
 pub fn text_is_certificate()
     ensures text { (quote : quote_view.Quote) → IsCertifiable quote → IsCertificateOf (certificate_text quote) quote }
     ensures versions { (version : ℕ) (quote : quote_view.Quote) → IsVersionFor version quote.problem.pools → IsCertifiable quote →

@@ -171,8 +171,8 @@ fn quote_of(alloc: Global, bytes: &[u8]) -> Result<Quote, Fault>
     quote_of_value(alloc, &value)
 }
 
-/// The quote of which the bytes are a certificate; None exactly where they are a certificate of none.
-/// Memory is the only error.
+/// The quote of which the bytes are a certificate; None exactly where they are a certificate of
+/// none. Memory is the only error.
 pub fn read(alloc: Global, bytes: &[u8]) -> Result<Option<Quote>, Memory>
     ensures { IfOk result (λ found. (quote : quote_view.Quote) → (found ≡ Some quote) ↔ IsCertificateOf bytes.now quote) }
 {

@@ -1,4 +1,5 @@
--- The moves of a problem's prices by numbers: sixty-four for each token and for each pool, as far as they do not move the target.
+-- The moves of a problem's prices by numbers: sixty-four for each token and for each pool, as far
+-- as they do not move the target.
 use Rattle.std.specs.Prelude.{ℕ, ◌≡◌, ◌+◌, ◌-◌, ◌/◌, ◌%◌, ◌<◌, ◌≤◌, Bool, nat_eq, nat_lt, nat_le, Option, Some, None, List, [], ◌∷◌, length, slice_index_or, if◌then◌else◌}
 use Rattle.amm_model.specs.declared.prices.Turn.{Turn}
 use Rattle.amm_model.specs.Routing.{OpenView, ArePrices, no_pool, token0_of, token1_of, token_place}

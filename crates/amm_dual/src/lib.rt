@@ -1,4 +1,10 @@
-//! Prices that settle.
+//! Prices of a routing problem at which its bound says most.
+//!
+//! The bound holds at any prices; it is tight where no small change of them lowers it. `Running`
+//! keeps a problem with its prices and the worth of each pool: it says the bound of now, and the
+//! bound after some changes without making them. `settled` decides whether no move of one or two
+//! prices lowers the bound by more than one part in 65536. `search` answers settled prices for
+//! every problem: from a plan, by what its route delivers, price by price, and then by moves.
 #![tactic(auto)]
 
 mod changes;
@@ -47,7 +53,8 @@ mod tests {
         Prices::from_parts(list)
     }
 
-    // The bounds at the prices 1 and 2, after token 1 was set to 1, and after it was set to 2 again.
+    // The bounds at the prices 1 and 2, after token 1 was set to 1, and after it was set to 2
+    // again.
     fn three_bounds(alloc: Global) -> Option<(u128, u128, u128)> {
         let problem = one_pool(alloc)?;
         let prices = prices_of(alloc, 1, 2)?;
@@ -68,7 +75,8 @@ mod tests {
         assert_eq!(rt; three_bounds(rt.alloc()), Some((135164, 100000, 135164)));
     }
 
-    // Whether the spot prices are settled, whether those that the descent finds are, and their bound.
+    // Whether the spot prices are settled, whether those that the descent finds are, and their
+    // bound.
     fn descent(alloc: Global) -> Option<(bool, bool, u128)> {
         let problem = one_pool(alloc)?;
         let start = prices_of(alloc, 1048576, 1048576)?;

@@ -8,20 +8,22 @@ use Rattle.amm_model.specs.Ledger.{Ledger}
 use Rattle.amm_model.specs.Lines.{lines_of, ended_lines_of}
 use Rattle.amm_model.specs.Runs.{FairRun, FairStep, output_of}
 
--- The text is that of the replies which the line with this number may have in the old ledger, and they leave the new one.
+-- The text is that of the replies which the line with this number may have in the old ledger, and
+-- they leave the new one.
 pub record AnswersLine (old : Ledger) (number : ℕ) (line : Line) (text : List ℕ) (new : Ledger) : Type 0 where
   pub replies : List Reply
   pub step : FairStep old number line replies new
   pub is : text ≡ output_of replies
 
--- All lines were answered: the sink took the output of a run over them, from the old ledger to the new.
+-- All lines were answered: the sink took the output of a run over them, from the old ledger to the
+-- new.
 pub record AnswersAll (old : Ledger) (lines : List Line) (before after : Option (List ℕ)) (new : Ledger) : Type 0 where
   pub replies : List Reply
   pub run : FairRun old 1 lines replies new
   pub written : Appends before after (output_of replies)
 
--- All lines but the last were answered, and of the reply to the last a part was written, but not all. The new ledger
--- is the one after the last line too.
+-- All lines but the last were answered, and of the reply to the last a part was written, but not
+-- all. The new ledger is the one after the last line too.
 pub record StopsInReply (old : Ledger) (lines : List Line) (before after : Option (List ℕ)) (new : Ledger) : Type 0 where
   pub front : List Line
   pub line : Line
@@ -53,15 +55,16 @@ pub record ServesEnded (limit : ℕ) (left_before left_after written_before writ
   pub within : length input ≤ limit
   pub answered : AnswersAll old (ended_lines_of input) written_before written_after new
 
--- The byte after the limit was taken, and the lines that a newline ended within the limit were answered.
+-- The byte after the limit was taken, and the lines that a newline ended within the limit were
+-- answered.
 pub record ServesToLimit (limit : ℕ) (left_before left_after written_before written_after : Option (List ℕ)) (old new : Ledger) : Type 0 where
   pub input : List ℕ
   pub taken : Consumes left_before left_after input
   pub passed : length input ≡ limit + 1
   pub answered : AnswersAll old (ended_lines_of (take limit input)) written_before written_after new
 
--- All lines up to one were answered, and of the reply to that one a part was written, but not all. Of what comes
--- after it few bytes were taken.
+-- All lines up to one were answered, and of the reply to that one a part was written, but not all.
+-- Of what comes after it few bytes were taken.
 pub record BreaksOff (limit : ℕ) (left_before left_after written_before written_after : Option (List ℕ)) (old new : Ledger) : Type 0 where
   pub through : List ℕ
   pub past : List ℕ

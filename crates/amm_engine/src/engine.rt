@@ -73,8 +73,9 @@ impl Engine {
         self.state.as_ref().unwrap().book()
     }
 
-    /// Answers one line: the text of its reply with its newline, nothing for a blank line. The number is the one that the reply
-    /// bears. A line that is refused changes nothing, and neither does one whose reply finds no memory.
+    /// Answers one line: the text of its reply with its newline, nothing for a blank line. The
+    /// number is the one that the reply bears. A line that is refused changes nothing, and neither
+    /// does one whose reply finds no memory.
     pub fn step(&mut self, alloc: Global, number: u64, line: &Line) -> Result<Vec<u8>, Memory>
         ensures ok { IfOk result (λ text. AnswersLine self.old number line.now text.items self.new) }
         ensures err { OnErr result (self.new ≡ self.old) }
@@ -149,9 +150,10 @@ impl Engine {
         result
     }
 
-    /// Answers each line of a source as it ends, up to 2^30 bytes of them. Whatever ends it, the ledger is then the one
-    /// after the lines whose replies are wholly written; only a failed write or want of memory may leave it one line further.
-    /// The statuses are Done, ReadFault, WriteFault, Memory and InputLimit.
+    /// Answers each line of a source as it ends, up to 2^30 bytes of them. Whatever ends it, the
+    /// ledger is then the one after the lines whose replies are wholly written; only a failed write
+    /// or want of memory may leave it one line further. The statuses are Done, ReadFault,
+    /// WriteFault, Memory and InputLimit.
     pub fn serve<S: Source, K: Sink>(
         &mut self,
         alloc: Global,

@@ -22,8 +22,8 @@ pub(crate) fn write_reply(text: &mut Vec<u8>, number: u64, answer: &Answer) -> R
     append_answer(text, number, answer)
 }
 
-/// Does a command in a transaction of its own. The reply's text is made before the ledger is kept, and a refused command
-/// leaves the ledger as it was.
+/// Does a command in a transaction of its own. The reply's text is made before the ledger is kept,
+/// and a refused command leaves the ledger as it was.
 pub(crate) fn run(
     alloc: Global,
     state: State,

@@ -15,7 +15,8 @@ use Rattle.amm_state.specs.declared.mark.Mark.TheVariants as mark
 abbrev pub before_return : Ledger → Terms → Ledger
 before_return ledger loan = with_pair ledger loan.pool loan.pair
 
--- What the borrower left is later than the loan and is its deed, and the return of the loan leaves this ledger and gives the receipt.
+-- What the borrower left is later than the loan and is its deed, and the return of the loan leaves
+-- this ledger and gives the receipt.
 pub record IsRepaid (did : Ledger → Ledger → Mark → Type 0) (lent : Made Terms) (left : Ledger) (receipt : SwapReceipt) : Type 0 where
   pub promise : Later lent.ledger (before_return left lent.answer)
   pub deed : did lent.ledger (before_return left lent.answer) mark.Clean

@@ -1,7 +1,8 @@
 //! Flash swaps: a pool lends, a borrower runs, and the loan is paid back or everything is undone.
 //!
-//! `flash` is generic over the borrower. Whatever the borrower does, the product of the pool's reserves does not fall.
-//! A fault is answered even where the borrower hides it, and then only `rollback` is left, which undoes all.
+//! `flash` is generic over the borrower. Whatever the borrower does, the product of the pool's
+//! reserves does not fall. A fault is answered even where the borrower hides it, and then only
+//! `rollback` is left, which undoes all.
 #![tactic(auto)]
 
 ghost use Rattle.std.specs.Prelude.{◌≡◌, Result, OnOk, IfErr};
@@ -25,14 +26,16 @@ mod tests;
 
 /// What runs between a loan and its return.
 ///
-/// It is called with a clean mark, a sound ledger, and the lending pair locked. The end of its call is the fault in the
-/// mark, where the mark is set; else the fault of its `Err`; else clean. A fault that it hides behind `Ok` so stays its
-/// end. Where the end is clean it promises `Later`.
+/// It is called with a clean mark, a sound ledger, and the lending pair locked. The end of its call
+/// is the fault in the mark, where the mark is set; else the fault of its `Err`; else clean. A
+/// fault that it hides behind `Ok` so stays its end. Where the end is clean it promises `Later`.
 pub trait Borrower {
-    /// What it does: the borrower as it is called, the ledger then, the ledger that it leaves, and the end of its call.
+    /// What it does: the borrower as it is called, the ledger then, the ledger that it leaves, and
+    /// the end of its call.
     ghost did: { Self → Ledger → Ledger → Mark → Type 0 };
 
-    /// Uses the loan. It may answer `Ok` with a mark that is set, and an `Err` with a mark that is not.
+    /// Uses the loan. It may answer `Ok` with a mark that is set, and an `Err` with a mark that is
+    /// not.
     fn on_loan(&mut self, alloc: Global, tx: &mut Tx, loan: &Loan) -> Result<(), Fault>
         requires clean { tx.old.mark ≡ Mark.Clean }
         requires sound { IsSound tx.old.present }
@@ -57,12 +60,14 @@ fn end_of(mark: Mark, answer: Result<(), Fault>) -> Mark
     }
 }
 
-/// Lends `out0` and `out1` units of the pool's two tokens to the actor, lets the borrower run, and asks for the return.
+/// Lends `out0` and `out1` units of the pool's two tokens to the actor, lets the borrower run, and
+/// asks for the return.
 ///
-/// Refused by what refuses the loan (NO_PAIR, LOCKED, INSUFFICIENT_OUTPUT_AMOUNT, INSUFFICIENT_LIQUIDITY), then by the
-/// end of the borrower's call, then by what refuses the return (INSUFFICIENT_INPUT_AMOUNT, K, OVERFLOW). After a code
-/// that is not one of the loan's, the present ledger is the one that the borrower left. `Fault::Memory` where any of the
-/// three ends by it.
+/// Refused by what refuses the loan (NO_PAIR, LOCKED, INSUFFICIENT_OUTPUT_AMOUNT,
+/// INSUFFICIENT_LIQUIDITY), then by the end of the borrower's call, then by what refuses the return
+/// (INSUFFICIENT_INPUT_AMOUNT, K, OVERFLOW). After a code that is not one of the loan's, the
+/// present ledger is the one that the borrower left. `Fault::Memory` where any of the three ends by
+/// it.
 pub fn flash<B: Borrower>(
     alloc: Global,
     tx: &mut Tx,

@@ -19,7 +19,8 @@ hop_over pools at i =
     else None))
     else None
 
--- the ways on from a hop to t, if it does not lead to t itself: those from the token that it leads to, but for s
+-- the ways on from a hop to t, if it does not lead to t itself: those from the token that it leads
+-- to, but for s
 abbrev pub onward : (Name → List (List Hop)) → List ProblemPool → (s t : Name) → Option Hop → List (List Hop)
 onward rest pools s t None = []
 onward rest pools s t (Some hop) =

@@ -23,7 +23,8 @@ pub record IsSettled (s : Stream) : Type 0 where
   pub passed : s.met ≡ Some stop.InputLimit → s.taken ≡ s.limit + 1
   pub lacked : s.met ≡ Some stop.Memory → s.kept ≡ []
 
--- Since the first state, the source gave bytes, and with what was kept then they are what was seen of the part and what is kept now.
+-- Since the first state, the source gave bytes, and with what was kept then they are what was seen
+-- of the part and what is kept now.
 pub record Reading (left_before left_now : Option (List ℕ)) (first now : Stream) (part : Beginning) : Type 0 where
   pub given : List ℕ
   pub consumed : Consumes left_before left_now given

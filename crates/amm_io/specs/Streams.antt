@@ -18,12 +18,14 @@ pub record Stream : Type 0 where
   -- the end that it has met
   pub met : Option Stop
 
--- those of the bytes that stand within the limit, where the bytes begin with what was kept before the call
+-- those of the bytes that stand within the limit, where the bytes begin with what was kept before
+-- the call
 abbrev pub within_limit : Stream → List ℕ → List ℕ
 within_limit old bytes = take (old.limit + length old.kept - old.taken) bytes
 
--- A line that a newline within the limit ended. All that was taken after the newline is kept. No end is met by it,
--- but that the limit was passed, exactly where a byte more than the limit was taken.
+-- A line that a newline within the limit ended. All that was taken after the newline is kept. No
+-- end is met by it, but that the limit was passed, exactly where a byte more than the limit was
+-- taken.
 pub record GivesEndedLine (old new : Stream) (bytes : List ℕ) (line : Line) : Type 0 where
   pub part : List ℕ
   pub unbroken : IsUnbroken part

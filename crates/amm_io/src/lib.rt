@@ -1,6 +1,6 @@
 //! Sources and sinks of bytes that count their faults, and the lines of a source.
-//! The lines are those of the bytes however the source cuts them; a fault is told only where a count of faults rose;
-//! a write that fails has put out a front of its bytes and nothing else.
+//! The lines are those of the bytes however the source cuts them; a fault is told only where a
+//! count of faults rose; a write that fails has put out a front of its bytes and nothing else.
 #![tactic(auto)]
 
 mod bytes;

@@ -126,7 +126,8 @@ impl Model for MemSink {
 }
 
 impl MemSink {
-    /// A sink that has taken nothing, and fails at the calls whose numbers, counted from 0, are in `fails`.
+    /// A sink that has taken nothing, and fails at the calls whose numbers, counted from 0, are in
+    /// `fails`.
     pub fn new(alloc: Global, fails: Vec<u64>) -> MemSink
         ensures { result ≡ record { written = []; schedule = record { fails = fails.items; calls = 0; faults = 0 } } }
     {

@@ -25,8 +25,8 @@ pub trait Sink {
     /// How often the sink has failed.
     ghost faults: { Self → ℕ };
 
-    /// Takes bytes from the front, and says how many: at least one of a piece that is not empty. `Failed` comes only where the
-    /// count of faults rose.
+    /// Takes bytes from the front, and says how many: at least one of a piece that is not empty.
+    /// `Failed` comes only where the count of faults rose.
     fn write(&mut self, bytes: &[u8]) -> Result<usize, IoFail>
         ensures bound { WritesAtMost result bytes.now }
         ensures some { IfOk result (λ count. 0 < length bytes.now → 0 < count) }
@@ -53,8 +53,8 @@ impl From<Memory> for WriteEnd {
     }
 }
 
-/// Writes all the bytes. On an end the sink has taken a front of them, and not all; WriteFault comes only where its count of
-/// faults rose.
+/// Writes all the bytes. On an end the sink has taken a front of them, and not all; WriteFault
+/// comes only where its count of faults rose.
 pub fn write_all<K: Sink>(sink: &mut K, bytes: &[u8]) -> Result<(), WriteEnd>
     ensures ok { OnOk result (Appends (K.written sink.old) (K.written sink.new) bytes.now) }
     ensures err { OnErr result (AppendsPart (K.written sink.old) (K.written sink.new) bytes.now) }

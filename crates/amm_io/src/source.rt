@@ -12,7 +12,8 @@ use thiserror::Error;
 #[error("the source failed")]
 pub struct Failed;
 
-/// What bytes are read from. A source may tell the bytes that are still to come, and it counts its faults.
+/// What bytes are read from. A source may tell the bytes that are still to come, and it counts its
+/// faults.
 pub trait Source {
     /// The bytes that are still to come, where the source tells them.
     ghost left: { Self → Option (List ℕ) };
@@ -20,8 +21,8 @@ pub trait Source {
     /// How often the source has failed.
     ghost faults: { Self → ℕ };
 
-    /// Gives the next bytes, and says how many: 0 for a buffer that is not empty only at the end of the input. `Err` comes only
-    /// where the count of faults rose.
+    /// Gives the next bytes, and says how many: 0 for a buffer that is not empty only at the end of
+    /// the input. `Err` comes only where the count of faults rose.
     fn read(&mut self, buf: &mut [u8]) -> Result<usize, Failed>
         ensures bound { ReadsAtMost result buf.new }
         ensures bytes { ReadConsumes (left self.old) (left self.new) result buf.new }

@@ -1,5 +1,5 @@
-// Readers and writers of std as sources and sinks. They tell what the reader and the writer tell: standard input and
-// output tell nothing.
+// Readers and writers of std as sources and sinks. They tell what the reader and the writer tell:
+// standard input and output tell nothing.
 ghost use Rattle.std.specs.Prelude.{◌≡◌};
 
 use crate::{Failed, IoFail, Sink, Source};
@@ -38,7 +38,8 @@ impl<R: Read + Drop> Source for StdSource<R> {
     }
 }
 
-/// A writer of std. Its errors are counted, up to 2^64-1, and so is each write that takes nothing of some bytes.
+/// A writer of std. Its errors are counted, up to 2^64-1, and so is each write that takes nothing
+/// of some bytes.
 #[derive(Drop)]
 pub struct StdSink<W: Write + Drop> {
     writer: W,

@@ -22,8 +22,8 @@ pub enum Stop {
     Memory,
 }
 
-/// The lines of a source. A contract sees the bytes that it took and has neither given out nor dropped, the count of
-/// the bytes that it took, and the end that it has met.
+/// The lines of a source. A contract sees the bytes that it took and has neither given out nor
+/// dropped, the count of the bytes that it took, and the end that it has met.
 #[derive(Drop)]
 pub struct Lines {
     chunk: Vec<u8>,
@@ -63,7 +63,8 @@ fn visible_end(start: usize, end: usize, taken: u128, limit: u64) -> usize
 }
 
 impl Lines {
-    /// Lines that have taken nothing yet, and take at most `limit` bytes and one. It takes 64 KiB of memory.
+    /// Lines that have taken nothing yet, and take at most `limit` bytes and one. It takes 64 KiB
+    /// of memory.
     pub fn new(alloc: Global, limit: u64) -> Result<Lines, Memory>
         ensures { IfOk result (λ lines. lines ≡ record { kept = []; taken = 0; limit = limit; met = None }) }
     {
@@ -103,7 +104,8 @@ impl Lines {
         }
     }
 
-    /// Moves what is kept within the limit to the part, up to a newline and over it. Says whether there was one.
+    /// Moves what is kept within the limit to the part, up to a newline and over it. Says whether
+    /// there was one.
     fn take_part(&mut self, part: &mut Part) -> Result<bool, Memory>
         ensures ended { result ≡ Ok true → EndsPart self.old self.new part.old part.new }
         ensures open { result ≡ Ok false → LeavesOpen self.old self.new part.old part.new }
@@ -148,9 +150,10 @@ impl Lines {
         self.start == self.end
     }
 
-    /// The next line, `None` at the end of the input. Where the source fails, or gives more bytes than the limit, that
-    /// comes after all lines that a newline ended before, and an unfinished rest is dropped. Want of memory drops all that was
-    /// read and not given out. A line of more than 65,536 bytes comes as `Long`, without its bytes.
+    /// The next line, `None` at the end of the input. Where the source fails, or gives more bytes
+    /// than the limit, that comes after all lines that a newline ended before, and an unfinished
+    /// rest is dropped. Want of memory drops all that was read and not given out. A line of more
+    /// than 65,536 bytes comes as `Long`, without its bytes.
     pub fn next<S: Source>(&mut self, alloc: Global, source: &mut S) -> Result<Option<Line>, IoEnd>
         ensures next { TakesNext (S.left source.old) (S.left source.new) self.old self.new result }
         ensures cause { HasCause (S.faults source.old) (S.faults source.new) ((self.old.met ≢ Some Stop.ReadFault) × IsErrOf result IoEnd.ReadFault) }
@@ -169,7 +172,8 @@ impl Lines {
         self.next_part(Part::over(spare), source)
     }
 
-    /// Takes back a line that was given out, so that the next one needs no new memory for what fits its room.
+    /// Takes back a line that was given out, so that the next one needs no new memory for what fits
+    /// its room.
     pub fn give_back(&mut self, line: Line)
         ensures { self.new ≡ self.old }
     {

@@ -6,7 +6,8 @@ use Rattle.amm_model.specs.Swap.{amount_out_of}
 use Rattle.amm_model.specs.Routing.{OpenView, fee_of, given}
 use Rattle.amm_model.specs.Legs.{AreLegs, IsAdmissible, IsLeg, after_legs, no_leg, used_after}
 
--- What is held after legs that may be taken, at each token's place, and a mark at the place of each pool used.
+-- What is held after legs that may be taken, at each token's place, and a mark at the place of each
+-- pool used.
 pub record Follows (problem : OpenView) (legs : List Leg) (held : List ℕ) (used : List Bool) : Type 0 where
   pub long : length held ≡ 521
   pub wide : length used ≡ 256

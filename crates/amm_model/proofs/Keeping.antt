@@ -14,7 +14,8 @@ use Rattle.amm_model.proofs.Transfers.{transfer_sent}
 use Rattle.amm_model.proofs.Soundness.{OnlyAt, share_not_token}
 use Rattle.amm_model.proofs.PlainSound.{Plain, transfer_plain, transfer_totals}
 
--- Every pair stays, a locked one with its record, and no other is locked; no asset of the zero holder falls; the totals of tokens stay.
+-- Every pair stays, a locked one with its record, and no other is locked; no asset of the zero
+-- holder falls; the totals of tokens stay.
 pub record Keeps (old new : Ledger) : Type 0 where
   pub stays : (pool : List ℕ) → IsSome (pair_of old.pairs pool) → IsSome (pair_of new.pairs pool)
   pub locked : (pool : List ℕ) (pair : PairRecord) → pair_of old.pairs pool ≡ Some pair → pair.locked ≡ true → pair_of new.pairs pool ≡ Some pair

@@ -1,4 +1,5 @@
--- What is promised of a later ledger: nothing changed, one thing after another, what accepted steps keep, a transfer.
+-- What is promised of a later ledger: nothing changed, one thing after another, what accepted steps
+-- keep, a transfer.
 use Rattle.std.proofs.Common.{◌≡◌, ℕ, false, List, Some, Ok, ◌∙◌, arith}
 use Rattle.amm_names.specs.declared.holder.Holder.{Holder}
 use Rattle.amm_names.specs.declared.holder.Holder.TheVariants as holders

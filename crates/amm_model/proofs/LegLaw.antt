@@ -36,7 +36,8 @@ balance_turned h x w true false within = omega arith
 balance_turned h x w false true within = let l = within refl in omega arith
 balance_turned h x w false false within = omega arith
 
--- one leg: what is held after it, and what its trade puts in, is what was held and what its trade takes out
+-- one leg: what is held after it, and what its trade puts in, is what was held and what its trade
+-- takes out
 leg_balance : (pools : List ProblemPool) (held : Holdings) (leg : Leg) → leg.input ≤ held (token_in pools leg) → (y : Name) →
     held y + amount_in_token y (pool_of pools (trade_of leg)) (trade_of leg).out0 (trade_of leg).out1
     ≡ after_leg pools held leg y + amount_in_token y (pool_of pools (trade_of leg)) (trade_of leg).in0 (trade_of leg).in1

@@ -20,7 +20,8 @@ use Rattle.amm_model.proofs.Names.{name_cases, asset_cases, pair_of-set_other, s
 use Rattle.amm_model.proofs.Balances.{Rest, rest_same, Taken, taken_kept}
 use Rattle.amm_model.proofs.Transfers.{Sent}
 
--- all pools but this one keep their record and their supply, and lose nothing; the zero holder loses nothing
+-- all pools but this one keep their record and their supply, and lose nothing; the zero holder
+-- loses nothing
 pub record OnlyAt (pool : List ℕ) (old new : Ledger) : Type 0 where
   pub tokens : new.tokens ≡ old.tokens
   pub time : new.time ≡ old.time

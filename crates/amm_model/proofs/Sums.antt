@@ -86,7 +86,8 @@ sum_of_zeros : {T : Type 0} (p : T → ℕ) (ts : List T) → sum_by (λ y. p y 
 sum_of_zeros p [] = refl
 sum_of_zeros p (y ∷ ts) = omega (arith, sum_by-cons (λ z. p z * 0) y ts, sum_of_zeros p ts)
 
--- The sum over the tokens of what the trades move of each, at its price, is the sum over the trades of what each moves of its two tokens.
+-- The sum over the tokens of what the trades move of each, at its price, is the sum over the trades
+-- of what each moves of its two tokens.
 pub exchanged : {T R : Type 0} (same : T → T → Bool) (decides : (a b : T) → Decides (same a b) (a ≡ b)) (p : T → ℕ)
     (token0 token1 : R → T) (a0 a1 : R → ℕ) (ts : List T) → Once ts → (route : List R) →
     AllByRecursion (λ r. In (token0 r) ts × In (token1 r) ts) route →

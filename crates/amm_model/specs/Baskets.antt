@@ -26,7 +26,7 @@ IsSequentialValue pools t used [] value = value ≡ 0
 IsSequentialValue pools t used (part ∷ parts) value =
     (((path : List Hop) → IsWayOfPart pools t used part path → ⊥) × IsSequentialValue pools t used parts value)
     ⊎ ((path : List Hop) × (rest : ℕ) × IsBestWay pools t used part path
-      × IsSequentialValue pools t (used ++ hop_places path) parts rest × (value ≡ gives pools path part.amount + rest))
+    × IsSequentialValue pools t (used ++ hop_places path) parts rest × (value ≡ gives pools path part.amount + rest))
 
 -- A one-way or two-way value of one of the parts.
 pub record IsValueOfPart (problem : OpenView) (value : ℕ) : Type 0 where

@@ -1,4 +1,5 @@
--- What pools are worth to a route at given prices, and the bound on every route that follows. (EC 2022, section 3)
+-- What pools are worth to a route at given prices, and the bound on every route that follows. (EC
+-- 2022, section 3)
 use Rattle.std.specs.Prelude.{ℕ, ◌+◌, ◌-◌, ◌*◌, ◌/◌, ◌^◌, List, slice_index, sum_by, nat_lt, if◌then◌else◌}
 use Rattle.amm_model.specs.Root.{root_of}
 use Rattle.amm_model.specs.Swap.{input_weight}
@@ -14,7 +15,8 @@ twice_mean a b = root_of (a * 2 ^ 30) * root_of (b * 2 ^ 30) / 2 ^ 29
 abbrev pub margin : ℕ → ℕ → ℕ → ℕ
 margin weight a b = (a + b - twice_mean a b) / weight
 
--- The worth of reserves at two prices, where so many thousandths of an input count: 0 where neither token is dearer by more than the fee.
+-- The worth of reserves at two prices, where so many thousandths of an input count: 0 where neither
+-- token is dearer by more than the fee.
 abbrev pub worth_by_weight : (weight r0 r1 p0 p1 : ℕ) → ℕ
 worth_by_weight weight r0 r1 p0 p1 =
     if nat_lt (1000 * p0 * r0) (weight * p1 * r1) then margin weight (1000 * p0 * r0) (weight * p1 * r1)

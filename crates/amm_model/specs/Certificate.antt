@@ -45,14 +45,16 @@ certificate_value quote = versioned_value 2 quote
 unfoldable pub certificate_text : Quote → List ℕ
 certificate_text quote = compact_text (certificate_value quote)
 
--- A quote that can be written: a price for each token, at most 256 legs, each over a pool of the problem with amounts of at most 2^52-1.
+-- A quote that can be written: a price for each token, at most 256 legs, each over a pool of the
+-- problem with amounts of at most 2^52-1.
 pub record IsWritable (quote : Quote) : Type 0 where
   pub priced : length quote.prices ≡ length quote.problem.tokens
   pub few : length quote.route.legs ≤ PAIR_LIMIT
   pub there : All (λ (leg : Leg). leg.pool < length quote.problem.pools) quote.route.legs
   pub amounts : All (λ (leg : Leg). (leg.input ≤ AMOUNT_LIMIT) × (leg.output ≤ AMOUNT_LIMIT)) quote.route.legs
 
--- A version that pools may be written in: version 1 has only pools of the fee of 3, which are spelled without a fee; version 2 has any.
+-- A version that pools may be written in: version 1 has only pools of the fee of 3, which are
+-- spelled without a fee; version 2 has any.
 abbrev pub IsVersionFor : ℕ → List ProblemPool → Type 0
 IsVersionFor version pools = ((version ≡ 1) × All (λ (pool : ProblemPool). fee_of pool ≡ 3) pools) ⊎ (version ≡ 2)
 

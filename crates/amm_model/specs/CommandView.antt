@@ -1,4 +1,5 @@
--- Commands and steps as plain trees: what a line asks for, apart from where its parts lie in memory.
+-- Commands and steps as plain trees: what a line asks for, apart from where its parts lie in
+-- memory.
 use Rattle.std.specs.Prelude.{ℕ, List, [], ◌∷◌, map}
 use Rattle.amm_names.specs.declared.holder.Asset.{Asset}
 use Rattle.amm_names.specs.declared.holder.Holder.{Holder}

@@ -11,8 +11,8 @@ use Rattle.amm_model.specs.Paths.{IsHop, Leads, hop_places, hop_to, gives}
 use Rattle.amm_model.specs.CommandView as view
 use Rattle.amm_model.specs.CommandView.{Move, Moves}
 
--- A cycle: two to four different admissible pools from t back to t, where t stands at the ends alone and no other token
--- comes twice.
+-- A cycle: two to four different admissible pools from t back to t, where t stands at the ends
+-- alone and no other token comes twice.
 pub record IsCycle (pools : List ProblemPool) (t : Name) (hops : List Hop) : Type 0 where
   pub short : (2 ≤ length hops) × (length hops ≤ 4)
   pub over : All (IsHop pools) hops
@@ -44,8 +44,8 @@ payment pools leg = view.move (view.transfer (asset.Token (token_in pools leg)) 
 abbrev pub loan : List ProblemPool → Leg → Moves → Move
 loan pools leg = view.flash (leg_pool pools leg).name (if leg.zero_in then 0 else leg.output) (if leg.zero_in then leg.output else 0)
 
--- Each pool lends its output before it is paid: within the loan of a leg those of the later legs run, and then the leg's
--- input is paid.
+-- Each pool lends its output before it is paid: within the loan of a leg those of the later legs
+-- run, and then the leg's input is paid.
 unfoldable pub nested_loans : List ProblemPool → Leg → List Leg → Move
 nested_loans pools leg [] = loan pools leg (payment pools leg)
 nested_loans pools leg (next ∷ later) = loan pools leg (view.move (nested_loans pools next later) (payment pools leg))

@@ -1,4 +1,5 @@
--- What the factory does to the ledger: pairs are created, and the setter says who gets the protocol's fee.
+-- What the factory does to the ledger: pairs are created, and the setter says who gets the
+-- protocol's fee.
 use Rattle.std.specs.Prelude.{ℕ, not, ◌||◌, List, Ok, ok_or}
 use Rattle.std.specs.Option.{is_some}
 use Rattle.amm_names.specs.declared.holder.Holder.{Holder}

@@ -1,4 +1,5 @@
--- Commands and steps whose numbers, fees and lengths are within their limits, at every level; and those of them that were read, whose names are names too.
+-- Commands and steps whose numbers, fees and lengths are within their limits, at every level; and
+-- those of them that were read, whose names are names too.
 use Rattle.std.specs.Prelude.{◌≡◌, ℕ, ⊤, suc, ◌≤◌, length, IsTrue}
 use Rattle.std.specs.List.{All}
 use Rattle.amm_names.specs.Names.{is_token_name}

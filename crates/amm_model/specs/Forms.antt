@@ -85,7 +85,8 @@ pub record Hop : Type 0 where
   pub fee : ℕ
   pub token : List ℕ
 
--- what follows a token of a path: where it goes on, the fee of the pool to the next token, or nothing for the fee of 3, and that token
+-- what follows a token of a path: where it goes on, the fee of the pool to the next token, or
+-- nothing for the fee of 3, and that token
 unfoldable pub hops : List Data → Result (List Hop) Refusal
 hops [] = Ok []
 hops (number n ∷ next ∷ rest) = do

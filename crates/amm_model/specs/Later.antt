@@ -5,8 +5,8 @@ use Rattle.amm_model.specs.Ledger.{Ledger, pair_of}
 use Rattle.amm_model.specs.Laws.{TokenTotalsKept}
 use Rattle.amm_model.specs.Sound.{IsSound}
 
--- Time, settings, tokens, quotes and observations are the same. Every pair stays, a locked one with its record, and
--- no other is locked. The totals of tokens stay, and a sound ledger stays sound.
+-- Time, settings, tokens, quotes and observations are the same. Every pair stays, a locked one with
+-- its record, and no other is locked. The totals of tokens stay, and a sound ledger stays sound.
 pub record Later (old new : Ledger) : Type 0 where
   pub time : new.time ≡ old.time
   pub fee_to : new.fee_to ≡ old.fee_to

@@ -1,4 +1,5 @@
--- A route leg by leg: each leg puts some of what is held of one token into a pool not used before, and the pool pays the other token.
+-- A route leg by leg: each leg puts some of what is held of one token into a pool not used before,
+-- and the pool pays the other token.
 use Rattle.std.specs.Prelude.{ℕ, ◌≡◌, ◌≢◌, ◌+◌, ◌-◌, ◌<◌, ◌≤◌, ◌^◌, List, [], ◌∷◌, length, slice_index_or, false, All, if◌then◌else◌}
 use Rattle.std.specs.Str.{bytes_eq}
 use Rattle.amm_model.specs.Swap.{amount_out_of}

@@ -54,8 +54,8 @@ as_answer view outcome = do
   told made.ledger (view made.answer)
 
 unfoldable mutual
-  -- What a step of the actor does. A loan is lent to the actor, whose steps run, and is then given back (core, UniswapV2Pair.swap with data).
-  -- A kind that is not answered yet is refused.
+  -- What a step of the actor does. A loan is lent to the actor, whose steps run, and is then given
+  -- back (core, UniswapV2Pair.swap with data). A kind that is not answered yet is refused.
   pub meaning : Ledger → (actor : List ℕ) → Move → Outcome Answer
   meaning ledger actor (view.transfer asset to n) = send ledger actor asset to n
   meaning ledger actor (view.create a b fee) = as_answer answers.Create (create ledger a b fee)

@@ -39,7 +39,8 @@ free_pair ledger pool = if_free (pair_of ledger.pairs pool)
 abbrev pub renewed : PairRecord → (time b0 b1 : ℕ) → PairRecord
 renewed pair time b0 b1 = record (accumulated pair time) { r0 = b0; r1 = b1 }
 
--- the record with these balances as its reserves, if both are within the limit of a reserve (core, _update)
+-- the record with these balances as its reserves, if both are within the limit of a reserve (core,
+-- _update)
 unfoldable pub updated_to : PairRecord → (time b0 b1 : ℕ) → Result PairRecord Refusal
 updated_to pair time b0 b1 =
     if nat_lt RESERVE_LIMIT b0 then Err code.Overflow
@@ -83,7 +84,8 @@ abbrev pub is_token_of : List ℕ → Holder → Bool
 is_token_of pool (holder.Token name) = same_name name (pool_token0 pool) || same_name name (pool_token1 pool)
 is_token_of pool other = false
 
--- the first half of a swap: the outputs are tested, the pair is locked, and they are sent; the answer is the record that is kept meanwhile (core, swap)
+-- the first half of a swap: the outputs are tested, the pair is locked, and they are sent; the
+-- answer is the record that is kept meanwhile (core, swap)
 unfoldable pub lend : Ledger → List ℕ → (out0 out1 : ℕ) → Holder → Outcome PairRecord
 lend ledger pool out0 out1 to = do
   pair ← free_pair ledger pool
@@ -100,18 +102,21 @@ open_loan ledger pool out0 out1 to = do
   lent ← lend ledger pool out0 out1 to
   Ok (record { ledger = lent.ledger; answer = record { pool = pool; out0 = out0; out1 = out1; pair = lent.answer } })
 
--- what has come in since the outputs went out: 0 where the balance is less than the loan left (core, swap)
+-- what has come in since the outputs went out: 0 where the balance is less than the loan left
+-- (core, swap)
 abbrev pub came_to : PairRecord → (b0 b1 out0 out1 : ℕ) → SwapReceipt
 came_to pair b0 b1 out0 out1 = record { in0 = b0 - (pair.r0 - out0); in1 = b1 - (pair.r1 - out1); out0 = out0; out1 = out1 }
 
 abbrev pub came_in : Ledger → List ℕ → PairRecord → (out0 out1 : ℕ) → SwapReceipt
 came_in ledger pool pair out0 out1 = came_to pair (held0 ledger pool) (held1 ledger pool) out0 out1
 
--- whether what the pool has, less the pool's fee on what came in, keeps the product of the reserves (whitepaper 3.2.1)
+-- whether what the pool has, less the pool's fee on what came in, keeps the product of the reserves
+-- (whitepaper 3.2.1)
 abbrev pub keeps_product : Ledger → List ℕ → PairRecord → SwapReceipt → Bool
 keeps_product ledger pool pair paid = admits (pool_fee pool) pair.r0 pair.r1 (held0 ledger pool) (held1 ledger pool) paid.in0 paid.in1
 
--- the second half of a swap: what came in is tested, the reserves are what the pool has, and the pair is free (core, swap)
+-- the second half of a swap: what came in is tested, the reserves are what the pool has, and the
+-- pair is free (core, swap)
 unfoldable pub give_back : Ledger → List ℕ → (out0 out1 : ℕ) → Outcome SwapReceipt
 give_back ledger pool out0 out1 = do
   pair ← if_there (pair_of ledger.pairs pool)
@@ -151,13 +156,15 @@ with_product nobody pair = if nobody then pair else record pair { k_last = pair.
 
 -- ---- mint
 
--- the shares for what was brought above the reserves: at first the root of the product of the amounts, less the first ones (whitepaper 3.4), and then in proportion to the supply
+-- the shares for what was brought above the reserves: at first the root of the product of the
+-- amounts, less the first ones (whitepaper 3.4), and then in proportion to the supply
 unfoldable pub shares_for : Ledger → List ℕ → PairRecord → (supply : ℕ) → ℕ
 shares_for ledger pool pair supply =
     if supply == 0 then root_of ((held0 ledger pool - pair.r0) * (held1 ledger pool - pair.r1)) - FIRST_LOCKED
     else later_shares_of (held0 ledger pool - pair.r0) (held1 ledger pool - pair.r1) supply pair.r0 pair.r1
 
--- the ledger with n shares given; the first shares of all are given together with those that the zero holder keeps for ever (core, mint)
+-- the ledger with n shares given; the first shares of all are given together with those that the
+-- zero holder keeps for ever (core, mint)
 unfoldable pub with_shares : Ledger → List ℕ → Holder → (supply n : ℕ) → Ledger
 with_shares ledger pool to supply n =
     if supply == 0 then added (added ledger (asset.Share pool) to n) (asset.Share pool) holder.Zero FIRST_LOCKED
@@ -190,7 +197,8 @@ mint ledger pool to = do
 abbrev pub own_shares : Ledger → List ℕ → ℕ
 own_shares ledger pool = balance ledger (asset.Share pool) (holder.Pool pool)
 
--- what the pool's own shares stand for: their part, of a supply, of all that the pool has (core, burn)
+-- what the pool's own shares stand for: their part, of a supply, of all that the pool has (core,
+-- burn)
 unfoldable pub parts_of : Ledger → List ℕ → (supply fee : ℕ) → BurnReceipt
 parts_of ledger pool supply fee = record {
   amount0 = own_shares ledger pool * held0 ledger pool / supply;
@@ -218,13 +226,15 @@ burn_parts ledger pool pair to fee parts = do
 abbrev pub burn_free : Ledger → List ℕ → PairRecord → Holder → ℕ → Outcome BurnReceipt
 burn_free ledger pool pair to fee = burn_parts ledger pool pair to fee (parts_of ledger pool (supply ledger pool + fee) fee)
 
--- the pool's own shares, counted before the fee, end for their part of what the pool has (core, burn)
+-- the pool's own shares, counted before the fee, end for their part of what the pool has (core,
+-- burn)
 unfoldable pub burn : Ledger → List ℕ → Holder → Outcome BurnReceipt
 burn ledger pool to = do
   pair ← free_pair ledger pool
   burn_free ledger pool pair to (fee_due ledger pool pair)
 
--- against the squared supply, counted after the protocol's fee, the product of the reserves did not fall
+-- against the squared supply, counted after the protocol's fee, the product of the reserves did not
+-- fall
 abbrev pub PerShareKept : Ledger → Ledger → List ℕ → (fee : ℕ) → Type 0
 PerShareKept old new pool fee =
     (was now : PairRecord) → pair_of old.pairs pool ≡ Some was → pair_of new.pairs pool ≡ Some now → 0 < supply old pool + fee →

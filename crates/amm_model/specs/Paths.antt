@@ -30,7 +30,8 @@ Leads pools first (hop ∷ hops) last = (hop_from pools hop ≡ first) × Leads 
 abbrev pub hop_places : List Hop → List ℕ
 hop_places hops = map (λ (hop : Hop). hop.pool) hops
 
--- A path: one to three different admissible pools from the one token to the other, where no token comes twice.
+-- A path: one to three different admissible pools from the one token to the other, where no token
+-- comes twice.
 pub record IsPath (pools : List ProblemPool) (from to : Name) (hops : List Hop) : Type 0 where
   pub short : (1 ≤ length hops) × (length hops ≤ 3)
   pub over : All (IsHop pools) hops
@@ -38,7 +39,8 @@ pub record IsPath (pools : List ProblemPool) (from to : Name) (hops : List Hop) 
   pub leads : Leads pools from hops to
   pub simple : AllPairs (λ (a b : Name). a ≢ b) (from ∷ map (hop_to pools) hops)
 
--- Of two lists of pool places, that one comes first which has the lower place where they first differ.
+-- Of two lists of pool places, that one comes first which has the lower place where they first
+-- differ.
 abbrev pub ComesBefore : List ℕ → List ℕ → Type 0
 ComesBefore [] qs = ⊥
 ComesBefore (p ∷ ps) [] = ⊥

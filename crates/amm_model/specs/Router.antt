@@ -32,7 +32,8 @@ use Rattle.amm_model.specs.Factory.{create}
 abbrev pub seen_from : (pool : List ℕ) → (zero_in : Bool) → PairRecord → Side
 seen_from pool zero_in pair = record { pool = pool; zero_in = zero_in; rin = if zero_in then pair.r0 else pair.r1; rout = if zero_in then pair.r1 else pair.r0 }
 
--- the pool of two tokens at a fee, and its reserves in the order of the tokens (library, sortTokens and getReserves)
+-- the pool of two tokens at a fee, and its reserves in the order of the tokens (library, sortTokens
+-- and getReserves)
 unfoldable pub side_of : Ledger → (from to : List ℕ) → (fee : ℕ) → Result Side Refusal
 side_of ledger from to fee = do
   pool ← ok_or (pool_between from to fee) code.Identical
@@ -60,7 +61,8 @@ pub record Plan : Type 0 where
   pub input : ℕ
   pub trades : List Trade
 
--- what the pool of two tokens asks for an output, and the trade (library, one round of getAmountsIn)
+-- what the pool of two tokens asks for an output, and the trade (library, one round of
+-- getAmountsIn)
 unfoldable pub trade_in : Ledger → (from to : List ℕ) → (fee : ℕ) → ℕ → Result (ℕ × Trade) Refusal
 trade_in ledger from to fee y = do
   side ← side_of ledger from to fee
@@ -187,7 +189,8 @@ match_a want ra rb = do
   _ ← refuse_if (nat_lt (quote_of want.b_desired rb ra) want.a_min) code.InsufficientAAmount
   Ok (record { a = quote_of want.b_desired rb ra; b = want.b_desired })
 
--- at most the desired amounts, in the relation of the reserves; all of them where there are no reserves (router, _addLiquidity)
+-- at most the desired amounts, in the relation of the reserves; all of them where there are no
+-- reserves (router, _addLiquidity)
 unfoldable pub matched : AddWant → (ra rb : ℕ) → Result Matched Refusal
 matched want ra rb = if ra == 0 && rb == 0 then Ok (record { a = want.a_desired; b = want.b_desired }) else do
   _ ← refuse_if (want.a_desired == 0) code.InsufficientAmount

@@ -1,4 +1,5 @@
--- The routing problem: how much of which tokens to bring to another, over which pools; and the routes that answer it. (EC 2022, section 2, in whole numbers)
+-- The routing problem: how much of which tokens to bring to another, over which pools; and the
+-- routes that answer it. (EC 2022, section 2, in whole numbers)
 use Rattle.std.specs.Prelude.{IsTrue, ℕ, ◌≡◌, ◌≢◌, ◌↔◌, ◌+◌, ◌-◌, ◌^◌, ◌<◌, ◌≤◌, List, [], ◌∷◌, ◌++◌, length, map, slice_index_or, sum_by, Contains, AllPairs, All, if◌then◌else◌, refl}
 use Rattle.std.specs.Coded.{Coded, code_by, coded×, coded_ℕ, coded_list}
 use Rattle.std.specs.Str.{bytes_eq}
@@ -17,7 +18,8 @@ use Rattle.amm_model.specs.declared.limits.TheConstants.{PART_LIMIT, PAIR_LIMIT}
 abbrev pub Name : Type 0
 Name = List ℕ
 
--- Bring the parts, each so much of a token, to t, over the pools. The tokens are t, those of the parts and those of the pools.
+-- Bring the parts, each so much of a token, to t, over the pools. The tokens are t, those of the
+-- parts and those of the pools.
 pub record OpenView : Type 0 where
   pub parts : List Part
   pub t : List ℕ
@@ -75,7 +77,8 @@ HasBalances pool = (pool.r0 ≤ pool.b0) × (pool.b0 < 2 ^ 52) × (pool.r1 ≤ p
 
 -- ---- problems
 
--- What a problem can be made of: at most eight parts of 1 to 2^52-1 each, in the order of their tokens, none of which is t, and at most 256 pools in the order of their names.
+-- What a problem can be made of: at most eight parts of 1 to 2^52-1 each, in the order of their
+-- tokens, none of which is t, and at most 256 pools in the order of their names.
 pub record AreOpenParts (parts : List Part) (t : Name) (pools : List ProblemPool) : Type 0 where
   pub few_parts : length parts ≤ PART_LIMIT
   pub rising : AllPairs (λ (a b : Part). IsBefore a.token b.token) parts
@@ -191,7 +194,8 @@ given_by_parts (part ∷ parts) token = if bytes_eq token part.token then part.a
 abbrev pub given : OpenView → Name → ℕ
 given problem = given_by_parts problem.parts
 
--- Each pool at most once, each trade by its rule; of every token no more is put in than was taken out and is given.
+-- Each pool at most once, each trade by its rule; of every token no more is put in than was taken
+-- out and is given.
 pub record IsRoute (problem : OpenView) (route : List Trade) : Type 0 where
   pub once : AllPairs (λ (a b : Trade). a.place ≢ b.place) route
   pub trades : All (IsTrade problem.pools) route

@@ -1,4 +1,5 @@
--- Settling a quote: each leg is paid and performed as it was quoted, while its pools are as they were.
+-- Settling a quote: each leg is paid and performed as it was quoted, while its pools are as they
+-- were.
 use Rattle.std.specs.Prelude.{ℕ, ◌==◌, Bool, false, not, ◌&&◌, nat_lt, List, [], ◌∷◌, map, Option, Some, None, Ok, if◌then◌else◌}
 use Rattle.std.specs.List.{list_any, list_all}
 use Rattle.amm_names.specs.declared.holder.Holder.TheVariants as holder
@@ -44,7 +45,8 @@ perform_legs ledger actor pools (leg ∷ legs) = do
   made ← perform_leg ledger actor pools leg
   perform_legs made.ledger actor pools legs
 
--- A kept quote for a user, who has all that it was asked for; the answer is what it said that it delivers.
+-- A kept quote for a user, who has all that it was asked for; the answer is what it said that it
+-- delivers.
 unfoldable pub settle : Ledger → (actor : Name) → Quote → (deadline : ℕ) → Outcome ℕ
 settle ledger actor quote deadline = do
   _ ← refuse_if (nat_lt deadline ledger.time) code.Expired

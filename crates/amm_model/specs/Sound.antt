@@ -25,8 +25,8 @@ pub record IsCovered (ledger : Ledger) (pool : List ℕ) (pair : PairRecord) : T
   pub first : pair.r0 ≤ held0 ledger pool
   pub second : pair.r1 ≤ held1 ledger pool
 
--- a pair of a sound ledger: its tokens are listed, its numbers fit, its pool has its reserves unless it is locked,
--- its shares are backed, and the zero holder keeps the first of them
+-- a pair of a sound ledger: its tokens are listed, its numbers fit, its pool has its reserves
+-- unless it is locked, its shares are backed, and the zero holder keeps the first of them
 pub record IsSoundPair (ledger : Ledger) (pool : List ℕ) (pair : PairRecord) : Type 0 where
   pub listed : (is_listed ledger.tokens (pool_token0 pool) ≡ true) × (is_listed ledger.tokens (pool_token1 pool) ≡ true)
   pub small : IsSmall pair
@@ -39,7 +39,8 @@ abbrev pub IsKnown : Ledger → Asset → Type 0
 IsKnown ledger (asset.Token name) = is_listed ledger.tokens name ≡ true
 IsKnown ledger (asset.Share pool) = IsSome (pair_of ledger.pairs pool)
 
--- every pair is sound and has a name of its own, totals are within their limit, only known assets are held, and the counts are within theirs
+-- every pair is sound and has a name of its own, totals are within their limit, only known assets
+-- are held, and the counts are within theirs
 pub record IsSound (ledger : Ledger) : Type 0 where
   pub pairs : (pool : List ℕ) (pair : PairRecord) → pair_of ledger.pairs pool ≡ Some pair → IsSoundPair ledger pool pair
   pub names : IsDistinct same_name (keys_of ledger.pairs)

@@ -8,8 +8,9 @@ use Rattle.amm_model.specs.Values.{IsOneOrTwoWayValue, AtLeastTheWays}
 use Rattle.amm_model.specs.Spreads.{AtLeastSpreads}
 use Rattle.amm_model.specs.declared.route.Quote.{Quote}
 
--- A quote that answers the split of its problem: its prices are settled, its bound is that of its prices, its legs deliver
--- its amount, and this is at least every one-way, two-way and spread value. Route and prices are free within this.
+-- A quote that answers the split of its problem: its prices are settled, its bound is that of its
+-- prices, its legs deliver its amount, and this is at least every one-way, two-way and spread
+-- value. Route and prices are free within this.
 pub record IsSplitAnswer (quote : Quote) : Type 0 where
   pub settled : IsSettled (opened quote.problem) quote.prices
   pub bound : quote.bound ≡ bound_of (opened quote.problem) quote.prices

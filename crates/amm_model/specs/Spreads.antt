@@ -1,5 +1,5 @@
--- What a split answer has to deliver at least, beside one-way and two-way values: the amount spread over several paths,
--- share after share, each where it gains most.
+-- What a split answer has to deliver at least, beside one-way and two-way values: the amount spread
+-- over several paths, share after share, each where it gains most.
 use Rattle.std.specs.Prelude.{ℕ, ◌≡◌, ◌+◌, ◌-◌, ◌*◌, ◌/◌, ◌<◌, ◌≤◌, ◌≢◌, ◌⊎◌, ◌++◌, List, [], ◌∷◌, sum_by}
 use Rattle.amm_model.specs.Routing.{Name, ProblemView}
 use Rattle.amm_model.specs.Bound.{price_of}
@@ -13,8 +13,8 @@ pub record Share : Type 0 where
   pub path : List Hop
   pub parts : ℕ
 
--- What is spread: d of one token brought to another over pools. A share has `least` to `most` sixteenths, and is judged
--- at a price of what it brings in and one of what it gives.
+-- What is spread: d of one token brought to another over pools. A share has `least` to `most`
+-- sixteenths, and is judged at a price of what it brings in and one of what it gives.
 pub record Spread : Type 0 where
   pub pools : List ProblemPool
   pub from : Name
@@ -35,22 +35,24 @@ share_output spread share = gives spread.pools share.path (share_input spread sh
 abbrev pub gain : Spread → Share → ℕ
 gain spread share = spread.price_out * share_output spread share - spread.price_in * share_input spread share
 
--- A share that can be taken: of a size that is allowed and still left, over pools that no share before has.
+-- A share that can be taken: of a size that is allowed and still left, over pools that no share
+-- before has.
 pub record CanBeTaken (spread : Spread) (left : ℕ) (used : List ℕ) (share : Share) : Type 0 where
   pub path : IsPath spread.pools spread.from spread.to share.path
   pub size : (spread.least ≤ share.parts) × (share.parts ≤ spread.most)
   pub within : share.parts ≤ left
   pub apart : AreApart (hop_places share.path) used
 
--- The greater gain comes first; among equals the path that comes first, and then the fewer sixteenths.
+-- The greater gain comes first; among equals the path that comes first, and then the fewer
+-- sixteenths.
 abbrev pub IsPreferred : Spread → Share → Share → Type 0
 IsPreferred spread a b =
     (gain spread b < gain spread a)
     ⊎ ((gain spread a ≡ gain spread b) × ComesBefore (hop_places a.path) (hop_places b.path))
     ⊎ ((gain spread a ≡ gain spread b) × (a.path ≡ b.path) × (a.parts ≤ b.parts))
 
--- The shares that are taken one after the other: each gains and is preferred to all that could be taken in its place, and
--- at the end none that could still be taken gains.
+-- The shares that are taken one after the other: each gains and is preferred to all that could be
+-- taken in its place, and at the end none that could still be taken gains.
 abbrev pub AreTaken : Spread → (left : ℕ) → (used : List ℕ) → List Share → Type 0
 AreTaken spread left used [] = (other : Share) → CanBeTaken spread left used other → gain spread other ≡ 0
 AreTaken spread left used (share ∷ shares) =

@@ -1,4 +1,5 @@
--- What a split answer has to deliver at least: one-way and two-way values, of so much of one token brought to another over pools.
+-- What a split answer has to deliver at least: one-way and two-way values, of so much of one token
+-- brought to another over pools.
 use Rattle.std.specs.Prelude.{ℕ, ◌≡◌, ◌+◌, ◌-◌, ◌*◌, ◌/◌, ◌≤◌, ◌⊎◌, List}
 use Rattle.amm_model.specs.Routing.{Name}
 use Rattle.amm_model.specs.declared.problem.ProblemPool.{ProblemPool}

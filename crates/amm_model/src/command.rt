@@ -2,7 +2,8 @@
 use crate::RoutePath;
 use amm_names::{Asset, Holder, PoolName, TokenName, UserName};
 
-/// What is to be added to the pool of two tokens at a fee of 1, 3 or 10 thousandths. Amounts are at most 2^52-1.
+/// What is to be added to the pool of two tokens at a fee of 1, 3 or 10 thousandths. Amounts are at
+/// most 2^52-1.
 #[derive(Clone, Copy, Drop)]
 pub struct AddWant {
     pub a: TokenName,
@@ -14,7 +15,8 @@ pub struct AddWant {
     pub b_min: u64,
 }
 
-/// What is to be taken out of the pool of two tokens at a fee of 1, 3 or 10 thousandths. Amounts are at most 2^52-1.
+/// What is to be taken out of the pool of two tokens at a fee of 1, 3 or 10 thousandths. Amounts
+/// are at most 2^52-1.
 #[derive(Clone, Copy, Drop)]
 pub struct RemoveWant {
     pub a: TokenName,

@@ -88,7 +88,8 @@ pub fn spelled(parts: &[Part], t: &TokenName, pools: &[ProblemPool])
     }
 }
 
-/// The target, and the tokens of the parts and of the pools, each once, in the order of their names.
+/// The target, and the tokens of the parts and of the pools, each once, in the order of their
+/// names.
 pub fn tokens_of(
     alloc: Global,
     parts: &[Part],

@@ -18,7 +18,8 @@ pub struct Part {
     pub amount: u64,
 }
 
-/// A pool of a route problem: its name, which has its tokens and its fee, its reserves and its balances.
+/// A pool of a route problem: its name, which has its tokens and its fee, its reserves and its
+/// balances.
 #[derive(Clone, Copy, Drop)]
 pub struct ProblemPool {
     pub name: PoolName,
@@ -74,8 +75,8 @@ pub fn parts_determine_open_problem()
 impl OpenProblem {
     /// The problem of bringing the parts to `t` over the pools. None where there are more than
     /// eight parts, their tokens do not strictly ascend, one of them is `t`, an amount is not 1 to
-    /// 2^52-1, there are more than 256 pools, their names do not strictly ascend, a reserve is not 1
-    /// to 2^48-1, or a balance is below its reserve or above 2^52-1.
+    /// 2^52-1, there are more than 256 pools, their names do not strictly ascend, a reserve is not
+    /// 1 to 2^48-1, or a balance is below its reserve or above 2^52-1.
     pub fn from_parts(
         alloc: Global,
         parts: Vec<Part>,
@@ -208,8 +209,8 @@ pub fn parts_determine_problem()
 {}
 
 impl Problem {
-    /// The problem of bringing `d` of `s` to `t` over the pools. None where `s` is `t`, `d` is not 1
-    /// to 2^52-1, there are more than 256 pools, their names do not strictly ascend, a reserve is
+    /// The problem of bringing `d` of `s` to `t` over the pools. None where `s` is `t`, `d` is not
+    /// 1 to 2^52-1, there are more than 256 pools, their names do not strictly ascend, a reserve is
     /// not 1 to 2^48-1, or a balance is below its reserve or above 2^52-1.
     pub fn from_parts(
         alloc: Global,

@@ -41,7 +41,8 @@ impl Route {
     }
 }
 
-/// A kept answer to a split: the problem, prices, a route, what it delivers, and the bound at the prices.
+/// A kept answer to a split: the problem, prices, a route, what it delivers, and the bound at the
+/// prices.
 #[derive(Drop)]
 pub struct Quote {
     pub problem: Problem,

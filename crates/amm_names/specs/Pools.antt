@@ -1,4 +1,5 @@
--- How pools are spelled: `A/B` for the fee of 3 thousandths, and `A/B:1`, `A/B:10` for the fees 1 and 10.
+-- How pools are spelled: `A/B` for the fee of 3 thousandths, and `A/B:1`, `A/B:10` for the fees 1
+-- and 10.
 use Rattle.std.specs.Prelude.{IsTrue, ℕ, Bool, ◌&&◌, ◌||◌, ◌==◌, if◌then◌else◌, Option, Some, None, List, [], ◌∷◌, ◌++◌, codes}
 use Rattle.std.specs.List.{before_first, after_first}
 use Rattle.std.specs.Str.{bytes_eq}
@@ -26,7 +27,8 @@ pool_spelling token0 token1 fee = token0 ++ 47 ∷ (token1 ++ fee_spelling fee)
 unfoldable pub pool_between : List ℕ → List ℕ → ℕ → Option (List ℕ)
 pool_between a b fee = if bytes_eq a b then None else Some (if is_before a b then pool_spelling a b fee else pool_spelling b a fee)
 
--- the parts of a spelling: up to the slash; from there up to the colon; and what the digits behind the colon say, where there are any
+-- the parts of a spelling: up to the slash; from there up to the colon; and what the digits behind
+-- the colon say, where there are any
 unfoldable pub pool_token0 : List ℕ → List ℕ
 pool_token0 bytes = before_first (λ b. b == 47) bytes
 

@@ -1,4 +1,5 @@
-//! Names of tokens, users and pools, kept in place and seen as the lists of their bytes; holders and assets.
+//! Names of tokens, users and pools, kept in place and seen as the lists of their bytes; holders
+//! and assets.
 #![tactic(auto)]
 
 mod holder;

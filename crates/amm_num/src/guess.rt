@@ -1,7 +1,8 @@
 // A guess at a square root, in whole numbers. Nothing is promised of it: it is right or one too
 // high at every number that was tried, and its caller tests it.
 
-// For the top byte of a number of at least 2^62: the root of its middle, scaled to 256 .. 511, less 256.
+// For the top byte of a number of at least 2^62: the root of its middle, scaled to 256 .. 511, less
+// 256.
 const ROOTS: [u8; 256] = [
     0, 0, 0, 0, 0, 0, 0, 0, 0, 0, 0, 0, 0, 0, 0, 0, 0, 0, 0, 0, 0, 0, 0, 0, 0, 0, 0, 0, 0, 0, 0, 0,
     0, 0, 0, 0, 0, 0, 0, 0, 0, 0, 0, 0, 0, 0, 0, 0, 0, 0, 0, 0, 0, 0, 0, 0, 0, 0, 0, 0, 0, 0, 0, 0,
@@ -42,7 +43,8 @@ fn guess_small(n: u64) -> u64 {
     guess_half(n << (2 * shift)) >> shift
 }
 
-// Near the root of a number of at least 2^62: two steps of Newton's method from the table, the first in 32 bits.
+// Near the root of a number of at least 2^62: two steps of Newton's method from the table, the
+// first in 32 bits.
 fn guess_half(top: u64) -> u64 {
     let first = (256 + ROOTS[(top >> 56) as usize] as u32) * 128;
     let high = (top >> 32) as u32;

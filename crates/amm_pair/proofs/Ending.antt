@@ -1,4 +1,5 @@
--- How a mint and a burn end: the pair's record gets the reserves that the pool then has, and the product if the fee is taken.
+-- How a mint and a burn end: the pair's record gets the reserves that the pool then has, and the
+-- product if the fee is taken.
 use Rattle.std.proofs.Common.{◌≡◌, ◌≤◌, ◌<◌, ◌+◌, ◌*◌, ℕ, Bool, true, false, List, Some, IsSome, refl, sym, ap, ◌∙◌, subst, arith}
 use Rattle.amm_model.specs.declared.pair.PairRecord.{PairRecord}
 use Rattle.amm_model.specs.Formulas.{IsBacked}

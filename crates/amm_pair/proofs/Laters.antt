@@ -1,4 +1,5 @@
--- What each accepted operation of a pair promises of the ledger that it leaves, and a whole loan with what runs in it.
+-- What each accepted operation of a pair promises of the ledger that it leaves, and a whole loan
+-- with what runs in it.
 use Rattle.std.proofs.Common.{◌≡◌, ◌≢◌, ℕ, List, Option, Some, IsSome, Ok, ◌≤◌, ◌*◌, inl, inr, refl, sym, ap, ◌∙◌, subst, arith}
 use Rattle.amm_names.specs.declared.holder.Holder.{Holder}
 use Rattle.amm_names.specs.declared.holder.Asset.TheVariants as assets

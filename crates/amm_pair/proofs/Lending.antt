@@ -93,7 +93,8 @@ lend_open ledger pool out0 out1 to made is =
     let l = lend_lent ledger pool out0 out1 to made is in
     record { there = lent_there ledger pool out0 out1 made l ∙ ap Some (sym l.keeps); locked = ap (λ (p : PairRecord). p.locked) l.keeps }
 
--- what a return leaves: the pair is free, its reserves are what the pool has, and the product did not fall
+-- what a return leaves: the pair is free, its reserves are what the pool has, and the product did
+-- not fall
 pub record Returned (old : Ledger) (pool : List ℕ) (made : Ledger) : Type 0 where
   pub was : PairRecord
   pub there : pair_of old.pairs pool ≡ Some was

@@ -1,5 +1,6 @@
--- Loans and swaps step by step as the code takes them: a swap in one go, with no lock, since nothing runs between its halves.
--- These words serve private functions alone; that they are the loan and the swap is proved.
+-- Loans and swaps step by step as the code takes them: a swap in one go, with no lock, since
+-- nothing runs between its halves. These words serve private functions alone; that they are the
+-- loan and the swap is proved.
 use Rattle.std.specs.Prelude.{ℕ, ◌==◌, ◌&&◌, ◌||◌, not, nat_le, List, Result, Ok}
 use Rattle.amm_names.specs.declared.holder.Holder.{Holder}
 use Rattle.amm_names.specs.declared.holder.Holder.TheVariants as holder

@@ -60,8 +60,8 @@ pub fn quote(a: u64, ra: u64, rb: u64) -> u128
     mul_div(a, rb, ra as u128)
 }
 
-/// Whether the balances, less the fee on what came in, keep the product of the reserves: the rule of
-/// a swap (core, `swap`). No input is above its balance.
+/// Whether the balances, less the fee on what came in, keep the product of the reserves: the rule
+/// of a swap (core, `swap`). No input is above its balance.
 pub fn admits(fee: u8, r0: u64, r1: u64, b0: u64, b1: u64, in0: u64, in1: u64) -> bool
     requires fee { IsFee fee }
     requires reserves { (r0 < 2 ^ 48) × (r1 < 2 ^ 48) }
@@ -86,7 +86,8 @@ pub fn first_root(a0: u64, a1: u64) -> u64
 }
 
 /// The shares for amounts brought to a pair that has shares: those of the side that brings fewer,
-/// rounded down (core, `mint`). `supply` is at least 1, its square at most the product of the reserves.
+/// rounded down (core, `mint`). `supply` is at least 1, its square at most the product of the
+/// reserves.
 pub fn later_shares(a0: u64, a1: u64, supply: u64, r0: u64, r1: u64) -> u64
     requires amounts { (a0 < 2 ^ 52) × (a1 < 2 ^ 52) }
     requires supply { (1 ≤ supply) × (supply * supply ≤ r0 * r1) }
@@ -111,7 +112,8 @@ pub fn burn_amount(shares: u64, balance: u64, supply: u64) -> u64
 
 /// The protocol's shares: one sixth of the growth of the root of the product since the last mint
 /// or burn, rounded down (core, `_mintFee`); 0 where `k_last` is 0 or the root has not grown. The
-/// squared supply is at most the product of the reserves, and a `k_last` that is not 0 between them.
+/// squared supply is at most the product of the reserves, and a `k_last` that is not 0 between
+/// them.
 pub fn fee_shares(supply: u64, r0: u64, r1: u64, k_last: u128) -> u64
     requires reserves { (r0 < 2 ^ 48) × (r1 < 2 ^ 48) }
     requires backed { IsBacked supply r0 r1 k_last }
@@ -130,7 +132,8 @@ pub fn fee_shares(supply: u64, r0: u64, r1: u64, k_last: u128) -> u64
 }
 
 /// The record after an update at the time `now` in seconds, but for its reserves: the time modulo
-/// 2^32, and the accumulators, whose prices have 48 binary places, and which wrap (core, `_update`).
+/// 2^32, and the accumulators, whose prices have 48 binary places, and which wrap (core,
+/// `_update`).
 pub fn accumulate(old: &PairRecord, now: u64) -> PairRecord
     ensures { result ≡ accumulated old.now now }
 {

@@ -17,7 +17,8 @@ pub fn write(alloc: Global, reply: &Reply) -> Result<Vec<u8>, Memory>
     Ok(text)
 }
 
-/// The text of a reply, with its newline, behind what is there. Where memory is lacking, a part of it may stand there.
+/// The text of a reply, with its newline, behind what is there. Where memory is lacking, a part of
+/// it may stand there.
 pub fn append(text: &mut Vec<u8>, reply: &Reply) -> Result<(), Memory>
     requires { CanBeWritten reply.now.answer }
     ensures { OnOk result (text.new.items ≡ text.old.items ++ reply_text reply.now) }

@@ -1,4 +1,5 @@
--- What accepted steps keep, whatever they are: soundness, locks, the zero holder, the totals of tokens and the settings.
+-- What accepted steps keep, whatever they are: soundness, locks, the zero holder, the totals of
+-- tokens and the settings.
 use Rattle.std.proofs.Common.{◌≡◌, ℕ, List, Result, Ok, OnOk, subst}
 use Rattle.amm_names.specs.declared.holder.Holder.{Holder}
 use Rattle.amm_names.specs.declared.holder.Holder.TheVariants as holders

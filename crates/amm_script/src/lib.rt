@@ -1,9 +1,9 @@
 //! Steps: what a user does by one command, and the steps inside a loan.
 //!
 //! A step leaves the ledger, answers and refuses exactly as its meaning says. A loan is lent to the
-//! actor, its steps run one after another, and only then is it given back; the first code ends them.
-//! An accepted step leaves a sound ledger sound. A script is a borrower too, and a flash swap with it
-//! is the flash step of the same steps.
+//! actor, its steps run one after another, and only then is it given back; the first code ends
+//! them. An accepted step leaves a sound ledger sound. A script is a borrower too, and a flash swap
+//! with it is the flash step of the same steps.
 #![tactic(auto)]
 
 mod asset;

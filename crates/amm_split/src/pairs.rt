@@ -54,7 +54,8 @@ pub fn best_pair(paths: &[Path], firsts: &[u64], seconds: &[u64], kept: Pick) ->
     best
 }
 
-// The best of the kept pair and those of this first path. Where no partner can be enough, none is tried.
+// The best of the kept pair and those of this first path. Where no partner can be enough, none is
+// tried.
 fn best_with(
     paths: &[Path],
     firsts: &[u64],

@@ -1,4 +1,5 @@
-//! The greatest one-way or two-way value: over all sixteen sizes, from tables of what each path gives.
+//! The greatest one-way or two-way value: over all sixteen sizes, from tables of what each path
+//! gives.
 ghost use Rattle.std.specs.Prelude.{◌≡◌, ◌⊎◌, ◌<◌, ◌≤◌, ◌^◌, ℕ, All, IfOk, length};
 ghost use Rattle.amm_model.specs.Paths.{IsHop};
 ghost use Rattle.amm_graph.specs.Hops.{hops_of};
@@ -9,7 +10,8 @@ use amm_graph::Path;
 use amm_model::{Memory, OpenProblem};
 use std::alloc::Global;
 
-/// An amount, the sixteenths of the first path, and the one or two paths that give it. No amount: no path.
+/// An amount, the sixteenths of the first path, and the one or two paths that give it. No amount:
+/// no path.
 #[derive(Clone, Copy, Drop)]
 pub struct BestWay {
     pub amount: u64,

@@ -55,7 +55,8 @@ pub record IsCanonical (ledger : Ledger) : Type 0 where
   pub amounts : (asset : Asset) → IsTidy (holdings_of ledger.holdings asset)
   pub assets : IsTidyByAsset ledger.holdings
 
--- where a transaction can go back to: said by one word, so that the proofs of the steps do not look into it
+-- where a transaction can go back to: said by one word, so that the proofs of the steps do not look
+-- into it
 unfoldable pub IsStart : Ledger → Type 0
 IsStart ledger = IsAtRest ledger × IsCanonical ledger
 

@@ -15,8 +15,8 @@ use indexmap::IndexMap;
 use std::alloc::Global;
 use std::marker::Model;
 
-/// The tables of all assets. Contracts see what is held, and beside it which accounts have a row, which may say 0.
-/// A change finds its asset once, and each row once.
+/// The tables of all assets. Contracts see what is held, and beside it which accounts have a row,
+/// which may say 0. A change finds its asset once, and each row once.
 #[derive(Drop)]
 pub(crate) struct Assets {
     tables: IndexMap<Asset, AssetRows, Seed>,
@@ -64,8 +64,8 @@ impl Assets {
         }
     }
 
-    /// Adds n units of the asset at a holder, and gives what it had. `TotalLimit` exactly where the total would be above
-    /// 2^52-1.
+    /// Adds n units of the asset at a holder, and gives what it had. `TotalLimit` exactly where the
+    /// total would be above 2^52-1.
     pub fn issue(&mut self, alloc: Global, asset: &Asset, to: &Holder, n: u64) -> Result<u64, Fault>
         ensures before { IfOk result (λ before. before ≡ amount (holdings_of self.old.holdings asset.now) to.now) }
         ensures limit { OnOk result (sum_held (holdings_of self.old.holdings asset.now) + n ≤ AMOUNT_LIMIT) }
@@ -82,7 +82,8 @@ impl Assets {
         Ok(before)
     }
 
-    /// Takes n units of the asset from a holder, and gives what it had. `Funds` exactly where it has fewer.
+    /// Takes n units of the asset from a holder, and gives what it had. `Funds` exactly where it
+    /// has fewer.
     pub fn retire(&mut self, asset: &Asset, from: &Holder, n: u64) -> Result<u64, Fault>
         requires { 0 < n }
         ensures before { IfOk result (λ before. before ≡ amount (holdings_of self.old.holdings asset.now) from.now) }
@@ -98,7 +99,8 @@ impl Assets {
         rows.retire(from, n)
     }
 
-    /// Moves n units of the asset, and gives what the two had before. `Funds` exactly where the sender has fewer.
+    /// Moves n units of the asset, and gives what the two had before. `Funds` exactly where the
+    /// sender has fewer.
     pub fn move_units(
         &mut self,
         asset: &Asset,

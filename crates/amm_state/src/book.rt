@@ -22,8 +22,9 @@ use std::alloc::Global;
 use std::marker::Model;
 use std::mem::replace;
 
-/// The tables of the ledger: who holds what, the listed tokens, the pairs, the protocol's settings and the time.
-/// Contracts see the ledger, and beside it which accounts have a row, which may say 0.
+/// The tables of the ledger: who holds what, the listed tokens, the pairs, the protocol's settings
+/// and the time. Contracts see the ledger, and beside it which accounts have a row, which may say
+/// 0.
 #[derive(Drop)]
 pub struct Book {
     assets: Assets,
@@ -155,8 +156,8 @@ impl Book {
         self.time
     }
 
-    /// Adds n units of the asset at a holder, and gives what it had. `TotalLimit` exactly where the total would be above
-    /// 2^52-1.
+    /// Adds n units of the asset at a holder, and gives what it had. `TotalLimit` exactly where the
+    /// total would be above 2^52-1.
     pub(crate) fn issue(
         &mut self,
         alloc: Global,
@@ -173,7 +174,8 @@ impl Book {
         self.assets.issue(alloc, asset, to, n)
     }
 
-    /// Takes n units of the asset from a holder, and gives what it had. `Funds` exactly where it has fewer.
+    /// Takes n units of the asset from a holder, and gives what it had. `Funds` exactly where it
+    /// has fewer.
     pub(crate) fn retire(&mut self, asset: &Asset, from: &Holder, n: u64) -> Result<u64, Fault>
         requires { 0 < n }
         ensures before { IfOk result (λ before. before ≡ balance self.old.ledger asset.now from.now) }
@@ -186,7 +188,8 @@ impl Book {
         self.assets.retire(asset, from, n)
     }
 
-    /// Moves n units of the asset, and gives what the two had before. `Funds` exactly where the sender has fewer.
+    /// Moves n units of the asset, and gives what the two had before. `Funds` exactly where the
+    /// sender has fewer.
     pub(crate) fn move_units(
         &mut self,
         asset: &Asset,

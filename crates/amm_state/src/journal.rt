@@ -18,7 +18,8 @@ pub enum Undo {
     Time(u64),
 }
 
-/// An entry of the journal: one closed type, so that the vector's calls need not know what it is made of.
+/// An entry of the journal: one closed type, so that the vector's calls need not know what it is
+/// made of.
 #[derive(Drop)]
 struct Entry {
     undo: Undo,

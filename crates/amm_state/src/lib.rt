@@ -1,8 +1,9 @@
 //! The ledger in tables, and transactions over it.
 //!
-//! A `State` is a ledger at rest: sound, with no pair locked. A `Tx` changes it call by call, each exactly as the
-//! call's definition says, and notes what takes each change back. It ends in `commit`, which keeps the present
-//! ledger, or in `rollback`, which gives back the opening one whatever happened. After a fault only `rollback` helps.
+//! A `State` is a ledger at rest: sound, with no pair locked. A `Tx` changes it call by call, each
+//! exactly as the call's definition says, and notes what takes each change back. It ends in
+//! `commit`, which keeps the present ledger, or in `rollback`, which gives back the opening one
+//! whatever happened. After a fault only `rollback` helps.
 #![tactic(auto)]
 
 mod assets;

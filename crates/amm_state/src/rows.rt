@@ -38,8 +38,8 @@ impl Model for AssetRows {
     ghost invariant = { λ table. (table.total ≡ sum_held (held_of table.rows.entries)) × (table.total ≤ AMOUNT_LIMIT) };
 }
 
-/// What two holders had before units went from one to the other; where they are the same, the receiver's is what was
-/// left.
+/// What two holders had before units went from one to the other; where they are the same, the
+/// receiver's is what was left.
 #[derive(Clone, Copy, Drop)]
 pub(crate) struct Before {
     pub sender: u64,
@@ -123,7 +123,8 @@ impl AssetRows {
         self.total
     }
 
-    /// Adds n units at a holder, and gives what it had. `TotalLimit` exactly where the total would be above 2^52-1.
+    /// Adds n units at a holder, and gives what it had. `TotalLimit` exactly where the total would
+    /// be above 2^52-1.
     pub fn issue(&mut self, to: &Holder, n: u64) -> Result<u64, Fault>
         ensures before { IfOk result (λ before. before ≡ amount self.old.held to.now) }
         ensures limit { OnOk result (sum_held self.old.held + n ≤ AMOUNT_LIMIT) }
@@ -156,7 +157,8 @@ impl AssetRows {
         Ok(before)
     }
 
-    /// Moves n units, and gives what the two had before. `Funds` exactly where the sender has fewer.
+    /// Moves n units, and gives what the two had before. `Funds` exactly where the sender has
+    /// fewer.
     pub fn move_units(&mut self, from: &Holder, to: &Holder, n: u64) -> Result<Before, Fault>
         requires { 0 < n }
         ensures sender { IfOk result (λ before. before.sender ≡ amount self.old.held from.now) }

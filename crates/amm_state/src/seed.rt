@@ -1,8 +1,8 @@
 //! The hash of the tables.
 use std::hash::{BuildHasher, FoldHasher, Hasher};
 
-/// What the tables' hashes begin with, so that names which collide under one seed are spread under another.
-/// It decides only where rows lie in the tables, and no clause speaks of it.
+/// What the tables' hashes begin with, so that names which collide under one seed are spread under
+/// another. It decides only where rows lie in the tables, and no clause speaks of it.
 #[derive(Clone, Copy)]
 pub struct Seed {
     // A hasher that has taken in the seed.

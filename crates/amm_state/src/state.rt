@@ -42,7 +42,8 @@ impl State {
         State::with_seed(alloc, Seed::new(0))
     }
 
-    /// The same, whose tables hash by this seed. It decides only where rows lie in the tables, and no clause speaks of it.
+    /// The same, whose tables hash by this seed. It decides only where rows lie in the tables, and
+    /// no clause speaks of it.
     pub fn with_seed(alloc: Global, seed: Seed) -> Result<State, Memory>
         ensures { IfOk result (λ state. state ≡ opening_ledger) }
     {

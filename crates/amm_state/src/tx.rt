@@ -111,7 +111,8 @@ impl Tx {
         State { book, journal }
     }
 
-    /// Gives back the ledger that the transaction began with, whatever happened. It takes no memory.
+    /// Gives back the ledger that the transaction began with, whatever happened. It takes no
+    /// memory.
     #[tactic(auto, unfolding(crate::specs::Journal::IsStart))]
     pub fn rollback(self) -> State
         ensures { result ≡ self.opening }

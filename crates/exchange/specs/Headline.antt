@@ -5,8 +5,8 @@ use Rattle.amm_model.specs.Ledger.{Ledger, opening_ledger}
 use Rattle.amm_model.specs.Lines.{lines_of}
 use Rattle.amm_model.specs.Runs.{FairRun, output_of}
 
--- Nothing of the input is left, and what is written is what was written before, followed by the output of a run
--- from the opening ledger over all lines of the input.
+-- Nothing of the input is left, and what is written is what was written before, followed by the
+-- output of a run from the opening ledger over all lines of the input.
 pub record RepliesToAll (input before : List ℕ) (left written : Option (List ℕ)) : Type 0 where
   pub nothing_left : left ≡ Some []
   pub replies : List Reply

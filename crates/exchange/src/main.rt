@@ -1,5 +1,5 @@
-//! The program: with the word `run` it answers the lines of standard input on standard output, exactly as a Uniswap v2
-//! ledger answers them.
+//! The program: with the word `run` it answers the lines of standard input on standard output,
+//! exactly as a Uniswap v2 ledger answers them.
 #![tactic(auto)]
 
 mod number;
@@ -39,8 +39,8 @@ fn words_of(rt: &HostRuntime) -> Result<Vec<String>, Status> {
     }
 }
 
-/// A number that nobody foresees, so that nobody can choose names that collide. Where the system gives none it is a fixed one, which costs no
-/// more than time.
+/// A number that nobody foresees, so that nobody can choose names that collide. Where the system
+/// gives none it is a fixed one, which costs no more than time.
 fn seed(rt: &HostRuntime) -> Seed {
     let mut bytes = [0; 8];
     match rt.fill_bytes(&mut bytes) {

@@ -14,8 +14,8 @@ use amm_engine::{Engine, Seed, Status};
 use amm_io::{Sink, Source};
 use std::alloc::Global;
 
-/// Does all that the program does: with the one word `run` it answers the lines of the source on the sink. No clause speaks of
-/// the seed: it decides only where names lie in the tables.
+/// Does all that the program does: with the one word `run` it answers the lines of the source on
+/// the sink. No clause speaks of the seed: it decides only where names lie in the tables.
 pub fn exchange<S: Source, K: Sink>(
     alloc: Global,
     seed: Seed,

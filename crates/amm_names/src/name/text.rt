@@ -70,7 +70,8 @@ impl<const N: usize> Text<N> {
         }
     }
 
-    /// These bytes, and those of a text behind them: its whole field is copied, and the zeros fall on zeros.
+    /// These bytes, and those of a text behind them: its whole field is copied, and the zeros fall
+    /// on zeros.
     pub fn joined<const M: usize>(self, more: Text<M>) -> Text<N>
         requires room { length self + M ≤ N }
         requires small { N < 256 }

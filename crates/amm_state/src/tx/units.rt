@@ -14,7 +14,8 @@ use amm_names::{Asset, Holder};
 use std::alloc::Global;
 
 impl Tx {
-    /// Adds n units of the asset at a holder. `TotalLimit` exactly where the total would be above 2^52-1.
+    /// Adds n units of the asset at a holder. `TotalLimit` exactly where the total would be above
+    /// 2^52-1.
     #[tactic(auto, unfolding(amm_model::specs::Ledger::issue))]
     pub fn issue(&mut self, alloc: Global, asset: &Asset, to: &Holder, n: u64) -> Result<(), Fault>
         requires { self.old.mark ≡ Mark.Clean }
@@ -73,7 +74,8 @@ impl Tx {
         Ok(())
     }
 
-    /// Moves n units of the asset from one holder to another. `Funds` exactly where the first has fewer.
+    /// Moves n units of the asset from one holder to another. `Funds` exactly where the first has
+    /// fewer.
     #[tactic(auto, unfolding(amm_model::specs::Ledger::transfer))]
     pub fn move_units(
         &mut self,
