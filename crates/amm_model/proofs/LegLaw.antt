@@ -1,5 +1,5 @@
 -- A leg-by-leg route is, leg for trade, a route that delivers the same.
-use Rattle.std.proofs.Common.{◌≡◌, ◌≢◌, ℕ, ◌+◌, ◌-◌, ◌*◌, ◌<◌, ◌≤◌, Bool, true, false, cond, nat_eq, List, [], ◌∷◌, length, map, arith, suc, subst, sym, refl, get_or, ◌∙◌}
+use Rattle.std.proofs.Common.{◌≡◌, ◌≢◌, ℕ, ◌+◌, ◌-◌, ◌<◌, ◌≤◌, Bool, true, false, cond, nat_eq, List, [], ◌∷◌, length, map, arith, suc, subst, sym, refl, get_or, ◌∙◌}
 use Rattle.std.specs.Prelude.{AllPairs, All, Contains}
 use Rattle.std.proofs.Math.ListN.{length-map}
 use Rattle.std.proofs.lemmas.List.{get_or-map}
@@ -20,7 +20,7 @@ use Rattle.amm_model.specs.Swap.{amount_out_of}
 use Rattle.amm_model.specs.Routing.{Name, OpenView, Trade, IsOpenProblem, HasReserves, given, IsTrade, IsRoute, pool_of, fee_of, put_in, taken_out, delivered_by, amount_in_token, no_pool}
 use Rattle.amm_model.specs.Legs.{Holdings, IsLeg, AreLegs, after_leg, after_legs, trade_of, token_in, leg_pool, reserve_in, reserve_out}
 use Rattle.std.proofs.Math.Nat.{mul-zero, sub-zero, add-zero}
-use Rattle.amm_model.proofs.Swap.{fee_range, greatest_output, amount_out-lt}
+use Rattle.amm_model.proofs.Swap.{fee_range, admits_turned, greatest_output, amount_out-lt}
 use Rattle.amm_model.proofs.Problems.{fee_of-is, none_given}
 
 -- what is held of a token, where x of it may go in and w of it may come out
@@ -63,9 +63,6 @@ legs_balance pools used held (leg ∷ legs) legal y =
     let ins = sum_by-cons (λ (t : Trade). amount_in_token y (pool_of pools t) t.in0 t.in1) (trade_of leg) (map trade_of legs) in
     omega arith
 
-turned : (a b x y : ℕ) → 1000000 * a * b ≤ x * y → 1000000 * b * a ≤ y * x
-turned a b x y h = omega arith
-
 -- a leg's trade is within its pool's reserves and its rule
 leg_is_trade : (pools : List ProblemPool) (used : List ℕ) (held : Holdings) (leg : Leg) →
     All HasReserves pools →
@@ -88,7 +85,7 @@ leg_is_trade pools used held leg reserves legal = by_side leg.pool leg.zero_in l
           there = there;
           within0 = rw pays (amount_out-lt (fee_of (get_or pools place no_pool)) input (get_or pools place no_pool).r1 (get_or pools place no_pool).r0 r.2 r.0);
           within1 = r.2;
-          admitted = rw pays (simp (mul-zero, sub-zero, add-zero) (simp (mul-zero, sub-zero) at (turned _ _ _ _ (greatest_output (fee_of (get_or pools place no_pool)) input (get_or pools place no_pool).r1 (get_or pools place no_pool).r0 (omega (arith, fee_range (fee_of (get_or pools place no_pool)) (fee_of-is (get_or pools place no_pool)))) r.2 r.0).0)));
+          admitted = rw pays (simp (mul-zero, sub-zero, add-zero) (simp (mul-zero, sub-zero) at (admits_turned _ _ _ _ _ _ _ (greatest_output (fee_of (get_or pools place no_pool)) input (get_or pools place no_pool).r1 (get_or pools place no_pool).r0 (omega (arith, fee_range (fee_of (get_or pools place no_pool)) (fee_of-is (get_or pools place no_pool)))) r.2 r.0).0)));
         }
 
 legs_are_trades : (pools : List ProblemPool) (used : List ℕ) (held : Holdings) (legs : List Leg) →

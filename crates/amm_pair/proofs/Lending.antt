@@ -1,7 +1,6 @@
 -- What an accepted loan, its return and a swap leave.
-use Rattle.std.proofs.Common.{◌≡◌, ◌≤◌, ◌-◌, ◌*◌, ℕ, nat_le, ◌==◌, ◌&&◌, ◌||◌, not, true, List, Option, Some, None, Ok, refl, sym, ap, ◌∙◌, subst, arith}
+use Rattle.std.proofs.Common.{◌≡◌, ◌≤◌, ◌-◌, ◌*◌, ℕ, nat_le, ◌==◌, ◌&&◌, ◌||◌, not, List, Option, Some, None, Ok, refl, sym, ap, ◌∙◌, subst, arith}
 use Rattle.std.proofs.lemmas.Bool.{not-false}
-use Rattle.std.proofs.lemmas.Bool.Decides.{nat_tests}
 use Rattle.amm_names.specs.declared.holder.Holder.{Holder}
 use Rattle.amm_names.specs.declared.holder.Holder.TheVariants as holders
 use Rattle.amm_names.specs.declared.holder.Asset.TheVariants as assets
@@ -9,7 +8,6 @@ use Rattle.amm_model.specs.declared.pair.PairRecord.{PairRecord}
 use Rattle.amm_model.specs.declared.pair.SwapReceipt.{SwapReceipt}
 use Rattle.amm_model.specs.declared.fault.Refusal.TheVariants as code
 use Rattle.amm_names.specs.Pools.{pool_fee}
-use Rattle.amm_model.specs.Swap.{admits}
 use Rattle.amm_model.specs.Ledger.{Ledger, Made, Pairs, pair_of, set_pair, with_pair, transfer}
 use Rattle.amm_model.specs.Pools.{asset0, asset1, held0, held1, supply, Terms}
 use Rattle.amm_model.specs.Operations.{if_there, free_pair, renewed, updated, locked, unlocked, is_token_of, lend, open_loan, came_in, keeps_product, give_back, swap}
@@ -114,11 +112,6 @@ was_there : (o : Option PairRecord) (pair : PairRecord) → if_there o ≡ Ok pa
 was_there None pair is = cc
 was_there (Some p) pair is = ap Some (same_answer p pair is)
 
-admitted : (fee r0 r1 b0 b1 in0 in1 : ℕ) → admits fee r0 r1 b0 b1 in0 in1 ≡ true → r0 * r1 ≤ b0 * b1
-admitted fee r0 r1 b0 b1 in0 in1 is =
-    let rule : 1000000 * r0 * r1 ≤ (1000 * b0 - fee * in0) * (1000 * b1 - fee * in1) = grind (arith, nat_tests) in
-    product_kept fee r0 r1 b0 b1 in0 in1 rule
-
 pub give_back_returned : (ledger : Ledger) (pool : List ℕ) (out0 out1 : ℕ) (made : Made SwapReceipt) → give_back ledger pool out0 out1 ≡ Ok made → Returned ledger pool made.ledger
 unfolding give_back
 give_back_returned ledger pool out0 out1 made is =
@@ -135,7 +128,7 @@ give_back_returned ledger pool out0 out1 made is =
       now = second.value;
       renewed = updated_renewed ledger pool was second.value second.was;
       after = ap (λ (m : Made SwapReceipt). m.ledger) (sym e);
-      product = admitted (pool_fee pool) was.r0 was.r1 (held0 ledger pool) (held1 ledger pool) paid.in0 paid.in1 (not-false (keeps_product ledger pool was paid) fair.0);
+      product = product_kept (pool_fee pool) was.r0 was.r1 (held0 ledger pool) (held1 ledger pool) paid.in0 paid.in1 (not-false (keeps_product ledger pool was paid) fair.0);
     }
 
 pub give_back_sound : (ledger : Ledger) (pool : List ℕ) (out0 out1 : ℕ) (made : Made SwapReceipt) → IsSound ledger → give_back ledger pool out0 out1 ≡ Ok made → IsSound made.ledger
