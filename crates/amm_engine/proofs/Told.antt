@@ -13,7 +13,7 @@ use Rattle.amm_model.specs.Factory.{create}
 use Rattle.amm_model.specs.Router.{add, remove, exact_in, exact_out}
 use Rattle.amm_model.specs.CommandView as view
 use Rattle.amm_model.specs.CommandView.{Move}
-use Rattle.amm_model.specs.Meaning.{known, send, synced, meaning, meaning_of_all, as_answer, answering}
+use Rattle.amm_model.specs.Meaning.{known, send, reserves_told, meaning, meaning_of_all, as_answer, answering}
 use Rattle.amm_model.specs.ReplyText.{CanBeWritten}
 use Rattle.amm_model.proofs.Guards.{given, same_answer}
 
@@ -40,12 +40,6 @@ sent_told old actor asset to n made is =
     let first = given (known old asset) _ made is in
     told_plain answers.Transfer (transfer old asset (holders.User actor) to n) made (record { accepted = λ why e. cc; written = tt }) first.after
 
-synced_told : (old : Ledger) (pool : List ℕ) (made : Made Answer) → synced old pool ≡ Ok made → IsAccepted made.answer
-unfolding synced
-synced_told old pool made is =
-    let first = given (sync old pool) _ made is in
-    subst (λ (k : Made Answer). IsAccepted k.answer) (same_answer _ made first.after) (record { accepted = λ why e. cc; written = tt })
-
 pub step_told : (old : Ledger) (actor : List ℕ) (step : Move) (made : Made Answer) → meaning old actor step ≡ Ok made → IsAccepted made.answer
 unfolding meaning
 step_told old actor (view.transfer asset to n) made is = sent_told old actor asset to n made is
@@ -54,7 +48,7 @@ step_told old actor (view.mint p to) made is = told_as answers.Mint (mint old p 
 step_told old actor (view.burn p to) made is = told_as answers.Burn (burn old p to) made (λ x. record { accepted = λ why e. cc; written = tt }) is
 step_told old actor (view.swap p out0 out1 to) made is = told_as answers.Swap (swap old p out0 out1 to) made (λ x. record { accepted = λ why e. cc; written = tt }) is
 step_told old actor (view.skim p to) made is = told_as answers.Skim (skim old p to) made (λ x. record { accepted = λ why e. cc; written = tt }) is
-step_told old actor (view.sync p) made is = synced_told old p made is
+step_told old actor (view.sync p) made is = told_as reserves_told (sync old p) made (λ x. record { accepted = λ why e. cc; written = tt }) is
 step_told old actor (view.flash p out0 out1 steps) made is =
     let lent = given (lend old p out0 out1 (holders.User actor)) _ made is in
     let ran = given (meaning_of_all lent.value.ledger actor steps) _ made lent.after in

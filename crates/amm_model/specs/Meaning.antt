@@ -5,6 +5,7 @@ use Rattle.amm_names.specs.declared.holder.Holder.{Holder}
 use Rattle.amm_names.specs.declared.holder.Holder.TheVariants as holders
 use Rattle.amm_names.specs.declared.holder.Asset.{Asset}
 use Rattle.amm_names.specs.declared.holder.Asset.TheVariants as assets
+use Rattle.amm_model.specs.declared.pair.PairRecord.{PairRecord}
 use Rattle.amm_model.specs.declared.fault.Refusal.{Refusal}
 use Rattle.amm_model.specs.declared.fault.Refusal.TheVariants as code
 use Rattle.amm_model.specs.declared.reply.Answer.{Answer}
@@ -41,17 +42,15 @@ send ledger actor asset to n = do
   _ ← known ledger asset
   answering answers.Transfer (transfer ledger asset (holders.User actor) to n)
 
--- reserves follow balances, and are told (core, UniswapV2Pair.sync)
-unfoldable pub synced : Ledger → (pool : List ℕ) → Outcome Answer
-synced ledger pool = do
-  made ← sync ledger pool
-  told made.ledger (answers.Sync (held0 made.ledger pool) (held1 made.ledger pool))
-
 -- what an operation answers, as the answer to a step
 abbrev pub as_answer : {A : Type 0} → (A → Answer) → Outcome A → Outcome Answer
 as_answer view outcome = do
   made ← outcome
   told made.ledger (view made.answer)
+
+-- the reserves that a record tells
+abbrev pub reserves_told : PairRecord → Answer
+reserves_told pair = answers.Sync pair.r0 pair.r1
 
 unfoldable mutual
   -- What a step of the actor does. A loan is lent to the actor, whose steps run, and is then given
@@ -63,7 +62,7 @@ unfoldable mutual
   meaning ledger actor (view.burn pool to) = as_answer answers.Burn (burn ledger pool to)
   meaning ledger actor (view.swap pool out0 out1 to) = as_answer answers.Swap (swap ledger pool out0 out1 to)
   meaning ledger actor (view.skim pool to) = as_answer answers.Skim (skim ledger pool to)
-  meaning ledger actor (view.sync pool) = synced ledger pool
+  meaning ledger actor (view.sync pool) = as_answer reserves_told (sync ledger pool)
   meaning ledger actor (view.flash pool out0 out1 steps) = do
     lent ← lend ledger pool out0 out1 (holders.User actor)
     ran ← meaning_of_all lent.ledger actor steps

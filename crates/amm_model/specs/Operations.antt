@@ -17,7 +17,7 @@ use Rattle.amm_model.specs.Swap.{admits}
 use Rattle.amm_model.specs.Formulas.{later_shares_of, fee_shares_of, accumulated}
 use Rattle.amm_model.specs.Pools.{same_name, asset0, asset1, held0, held1, supply, Terms}
 use Rattle.amm_model.specs.declared.limits.TheConstants.{RESERVE_LIMIT, FIRST_LOCKED}
-use Rattle.amm_model.specs.Ledger.{Ledger, Outcome, done, balance, added, transfer, retire, pair_of, with_pair}
+use Rattle.amm_model.specs.Ledger.{Ledger, Outcome, balance, added, transfer, retire, pair_of, with_pair}
 
 -- the pair of a pool, if it has one
 abbrev pub if_there : Option PairRecord → Result PairRecord Refusal
@@ -51,12 +51,18 @@ updated_to pair time b0 b1 =
 abbrev pub updated : Ledger → List ℕ → PairRecord → Result PairRecord Refusal
 updated ledger pool pair = updated_to pair ledger.time (held0 ledger pool) (held1 ledger pool)
 
--- what the pool has becomes its reserves (core, sync)
-unfoldable pub sync : Ledger → List ℕ → Outcome (Unit {0})
+-- what the pool has becomes its reserves; the answer is the new record (core, sync)
+unfoldable pub sync : Ledger → List ℕ → Outcome PairRecord
 sync ledger pool = do
   pair ← free_pair ledger pool
   new ← updated ledger pool pair
-  done (with_pair ledger pool new)
+  Ok (record { ledger = with_pair ledger pool new; answer = new })
+
+-- these amounts of its two tokens go from the pool (core, _safeTransfer)
+unfoldable pub both_sent : Ledger → List ℕ → (n0 n1 : ℕ) → Holder → Outcome (Unit {0})
+both_sent ledger pool n0 n1 to = do
+  first ← transfer ledger (asset0 pool) (holder.Pool pool) to n0
+  transfer first.ledger (asset1 pool) (holder.Pool pool) to n1
 
 -- what the pool has above its reserves
 abbrev pub excess : Ledger → List ℕ → PairRecord → SkimReceipt
@@ -66,9 +72,8 @@ excess ledger pool pair = record { sent0 = held0 ledger pool - pair.r0; sent1 = 
 unfoldable pub skim : Ledger → List ℕ → Holder → Outcome SkimReceipt
 skim ledger pool to = do
   pair ← free_pair ledger pool
-  first ← transfer ledger (asset0 pool) (holder.Pool pool) to (held0 ledger pool - pair.r0)
-  second ← transfer first.ledger (asset1 pool) (holder.Pool pool) to (held1 ledger pool - pair.r1)
-  Ok (record { ledger = second.ledger; answer = excess ledger pool pair })
+  sent ← both_sent ledger pool (held0 ledger pool - pair.r0) (held1 ledger pool - pair.r1) to
+  Ok (record { ledger = sent.ledger; answer = excess ledger pool pair })
 
 -- ---- loans and swaps
 
@@ -84,17 +89,23 @@ abbrev pub is_token_of : List ℕ → Holder → Bool
 is_token_of pool (holder.Token name) = same_name name (pool_token0 pool) || same_name name (pool_token1 pool)
 is_token_of pool other = false
 
--- the first half of a swap: the outputs are tested, the pair is locked, and they are sent; the
--- answer is the record that is kept meanwhile (core, swap)
-unfoldable pub lend : Ledger → List ℕ → (out0 out1 : ℕ) → Holder → Outcome PairRecord
-lend ledger pool out0 out1 to = do
+-- the pair that may lend these outputs to the receiver: it is free, something is asked of it and
+-- less than its reserves, and the receiver is none of its tokens (core, swap)
+unfoldable pub lendable : Ledger → List ℕ → (out0 out1 : ℕ) → Holder → Result PairRecord Refusal
+lendable ledger pool out0 out1 to = do
   pair ← free_pair ledger pool
   _ ← refuse_if (out0 == 0 && out1 == 0) code.InsufficientOutputAmount
   _ ← refuse_if (nat_le pair.r0 out0 || nat_le pair.r1 out1) code.InsufficientLiquidity
   _ ← refuse_if (is_token_of pool to) code.InvalidTo
-  first ← transfer (with_pair ledger pool (locked pair)) (asset0 pool) (holder.Pool pool) to out0
-  second ← transfer first.ledger (asset1 pool) (holder.Pool pool) to out1
-  Ok (record { ledger = second.ledger; answer = locked pair })
+  Ok pair
+
+-- the first half of a swap: the pair is locked, and the outputs are sent; the answer is the record
+-- that is kept meanwhile (core, swap)
+unfoldable pub lend : Ledger → List ℕ → (out0 out1 : ℕ) → Holder → Outcome PairRecord
+lend ledger pool out0 out1 to = do
+  pair ← lendable ledger pool out0 out1 to
+  sent ← both_sent (with_pair ledger pool (locked pair)) pool out0 out1 to
+  Ok (record { ledger = sent.ledger; answer = locked pair })
 
 -- the same as a loan, which keeps its terms (core, swap with data; whitepaper 2.3)
 abbrev pub open_loan : Ledger → List ℕ → (out0 out1 : ℕ) → Holder → Outcome Terms
@@ -115,15 +126,21 @@ came_in ledger pool pair out0 out1 = came_to pair (held0 ledger pool) (held1 led
 abbrev pub keeps_product : Ledger → List ℕ → PairRecord → SwapReceipt → Bool
 keeps_product ledger pool pair paid = admits (pool_fee pool) pair.r0 pair.r1 (held0 ledger pool) (held1 ledger pool) paid.in0 paid.in1
 
--- the second half of a swap: what came in is tested, the reserves are what the pool has, and the
--- pair is free (core, swap)
+-- what came in since this record lent its outputs is tested; then the reserves are what the pool
+-- has, and the pair is free (core, swap)
+unfoldable pub settled : Ledger → List ℕ → PairRecord → (out0 out1 : ℕ) → Outcome SwapReceipt
+settled ledger pool pair out0 out1 = do
+  let paid = came_in ledger pool pair out0 out1
+  _ ← refuse_if (paid.in0 == 0 && paid.in1 == 0) code.InsufficientInputAmount
+  _ ← refuse_if (not (keeps_product ledger pool pair paid)) code.K
+  new ← updated ledger pool pair
+  Ok (record { ledger = with_pair ledger pool (unlocked new); answer = paid })
+
+-- the second half of a swap (core, swap)
 unfoldable pub give_back : Ledger → List ℕ → (out0 out1 : ℕ) → Outcome SwapReceipt
 give_back ledger pool out0 out1 = do
   pair ← if_there (pair_of ledger.pairs pool)
-  _ ← refuse_if ((came_in ledger pool pair out0 out1).in0 == 0 && (came_in ledger pool pair out0 out1).in1 == 0) code.InsufficientInputAmount
-  _ ← refuse_if (not (keeps_product ledger pool pair (came_in ledger pool pair out0 out1))) code.K
-  new ← updated ledger pool pair
-  Ok (record { ledger = with_pair ledger pool (unlocked new); answer = came_in ledger pool pair out0 out1 })
+  settled ledger pool pair out0 out1
 
 -- both halves at once: the receiver has paid before (core, swap without data)
 unfoldable pub swap : Ledger → List ℕ → (out0 out1 : ℕ) → Holder → Outcome SwapReceipt
@@ -146,13 +163,9 @@ fee_due ledger pool pair = if is_nobody ledger.fee_to then 0 else fee_shares_of 
 unfoldable pub with_fee : Ledger → List ℕ → ℕ → Ledger
 with_fee ledger pool fee = if fee == 0 then ledger else added ledger (asset.Share pool) ledger.fee_to fee
 
--- the record while the fee is taken: with nobody to get it, no product is kept
-abbrev pub after_fee : Bool → PairRecord → PairRecord
-after_fee nobody pair = if nobody then record pair { k_last = 0 } else pair
-
--- the record at the end of a mint or a burn: with somebody to get the fee, its product is kept
+-- the record at the end of a mint or a burn: the product is kept where somebody gets the fee
 abbrev pub with_product : Bool → PairRecord → PairRecord
-with_product nobody pair = if nobody then pair else record pair { k_last = pair.r0 * pair.r1 }
+with_product nobody pair = record pair { k_last = if nobody then 0 else pair.r0 * pair.r1 }
 
 -- ---- mint
 
@@ -170,26 +183,17 @@ with_shares ledger pool to supply n =
     if supply == 0 then added (added ledger (asset.Share pool) to n) (asset.Share pool) holder.Zero FIRST_LOCKED
     else added ledger (asset.Share pool) to n
 
--- the ledger with the fee and n shares given
-abbrev pub minted : Ledger → List ℕ → Holder → (fee n : ℕ) → Ledger
-minted ledger pool to fee n = with_shares (with_fee ledger pool fee) pool to (supply ledger pool + fee) n
-
--- a mint of so many shares, after so many for the fee
-abbrev pub mint_shares : Ledger → List ℕ → PairRecord → Holder → (fee n : ℕ) → Outcome MintReceipt
-mint_shares ledger pool pair to fee n = do
-  _ ← refuse_if (n == 0) code.InsufficientLiquidityMinted
-  new ← updated (minted ledger pool to fee n) pool (after_fee (is_nobody ledger.fee_to) pair)
-  Ok (record { ledger = with_pair (minted ledger pool to fee n) pool (with_product (is_nobody ledger.fee_to) new); answer = record { shares = n; fee_shares = fee } })
-
--- a mint for a free pair, after a fee that counts to the supply
-abbrev pub mint_free : Ledger → List ℕ → PairRecord → Holder → ℕ → Outcome MintReceipt
-mint_free ledger pool pair to fee = mint_shares ledger pool pair to fee (shares_for ledger pool pair (supply ledger pool + fee))
-
--- shares for what the pool has above its reserves (core, mint)
+-- shares for what the pool has above its reserves, of the supply with the fee's (core, mint)
 unfoldable pub mint : Ledger → List ℕ → Holder → Outcome MintReceipt
 mint ledger pool to = do
   pair ← free_pair ledger pool
-  mint_free ledger pool pair to (fee_due ledger pool pair)
+  let fee = fee_due ledger pool pair
+  let before = supply ledger pool + fee
+  let shares = shares_for ledger pool pair before
+  let given = with_shares (with_fee ledger pool fee) pool to before shares
+  _ ← refuse_if (shares == 0) code.InsufficientLiquidityMinted
+  new ← updated given pool pair
+  Ok (record { ledger = with_pair given pool (with_product (is_nobody ledger.fee_to) new); answer = record { shares = shares; fee_shares = fee } })
 
 -- ---- burn
 
@@ -206,32 +210,20 @@ parts_of ledger pool supply fee = record {
   fee_shares = fee;
 }
 
--- the shares end and the parts are sent
-unfoldable pub pay_out : Ledger → List ℕ → Holder → (shares : ℕ) → BurnReceipt → Outcome (Unit {0})
-pay_out ledger pool to shares parts = do
-  fewer ← retire ledger (asset.Share pool) (holder.Pool pool) shares
-  first ← transfer fewer.ledger (asset0 pool) (holder.Pool pool) to parts.amount0
-  transfer first.ledger (asset1 pool) (holder.Pool pool) to parts.amount1
-
--- a burn that pays these parts, after so many shares for the fee
-abbrev pub burn_parts : Ledger → List ℕ → PairRecord → Holder → (fee : ℕ) → BurnReceipt → Outcome BurnReceipt
-burn_parts ledger pool pair to fee parts = do
-  _ ← refuse_if (supply ledger pool + fee == 0) code.InsufficientLiquidityBurned
-  _ ← refuse_if (parts.amount0 == 0 || parts.amount1 == 0) code.InsufficientLiquidityBurned
-  paid ← pay_out (with_fee ledger pool fee) pool to (own_shares ledger pool) parts
-  new ← updated paid.ledger pool (after_fee (is_nobody ledger.fee_to) pair)
-  Ok (record { ledger = with_pair paid.ledger pool (with_product (is_nobody ledger.fee_to) new); answer = parts })
-
--- a burn for a free pair, after a fee that counts to the supply
-abbrev pub burn_free : Ledger → List ℕ → PairRecord → Holder → ℕ → Outcome BurnReceipt
-burn_free ledger pool pair to fee = burn_parts ledger pool pair to fee (parts_of ledger pool (supply ledger pool + fee) fee)
-
 -- the pool's own shares, counted before the fee, end for their part of what the pool has (core,
 -- burn)
 unfoldable pub burn : Ledger → List ℕ → Holder → Outcome BurnReceipt
 burn ledger pool to = do
   pair ← free_pair ledger pool
-  burn_free ledger pool pair to (fee_due ledger pool pair)
+  let fee = fee_due ledger pool pair
+  let before = supply ledger pool + fee
+  let parts = parts_of ledger pool before fee
+  _ ← refuse_if (before == 0) code.InsufficientLiquidityBurned
+  _ ← refuse_if (parts.amount0 == 0 || parts.amount1 == 0) code.InsufficientLiquidityBurned
+  fewer ← retire (with_fee ledger pool fee) (asset.Share pool) (holder.Pool pool) (own_shares ledger pool)
+  sent ← both_sent fewer.ledger pool parts.amount0 parts.amount1 to
+  new ← updated sent.ledger pool pair
+  Ok (record { ledger = with_pair sent.ledger pool (with_product (is_nobody ledger.fee_to) new); answer = parts })
 
 -- against the squared supply, counted after the protocol's fee, the product of the reserves did not
 -- fall

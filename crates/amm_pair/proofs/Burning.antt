@@ -8,43 +8,25 @@ use Rattle.amm_model.specs.declared.pair.PairRecord.{PairRecord}
 use Rattle.amm_model.specs.declared.pair.BurnReceipt.{BurnReceipt}
 use Rattle.amm_model.specs.declared.fault.Refusal.TheVariants as code
 use Rattle.amm_names.specs.Pools.{pool_token0, pool_token1}
-use Rattle.amm_model.specs.Ledger.{Ledger, Made, Pairs, transfer, retire, pair_of, with_pair}
+use Rattle.amm_model.specs.Ledger.{Ledger, Made, Pairs, retire, pair_of, with_pair}
 use Rattle.amm_model.specs.Pools.{asset0, asset1, held0, held1, supply}
-use Rattle.amm_model.specs.Operations.{free_pair, updated, is_nobody, fee_due, with_fee, after_fee, with_product, own_shares, parts_of, pay_out, burn, PerShareKept}
+use Rattle.amm_model.specs.Operations.{free_pair, updated, is_nobody, fee_due, with_fee, with_product, own_shares, parts_of, both_sent, burn, PerShareKept}
 use Rattle.amm_model.specs.Sound.{IsCovered, IsSoundPair, IsSound}
 use Rattle.amm_pool.proofs.Products.{burned_product, covered_scaled}
 use Rattle.amm_model.proofs.Guards.{given, not_refused, same_answer}
 use Rattle.amm_model.proofs.Balances.{Taken}
-use Rattle.amm_model.proofs.Transfers.{Sent, transfer_sent, retire_taken}
-use Rattle.amm_model.proofs.Soundness.{OnlyAt, only_at_then, sent_only, taken_only, share_not_token, tokens_apart}
+use Rattle.amm_model.proofs.Transfers.{retire_taken}
+use Rattle.amm_model.proofs.Soundness.{OnlyAt, only_at_then, taken_only, share_not_token, tokens_apart}
 use Rattle.amm_model.proofs.Laters.{Kept}
-use Rattle.amm_pair.proofs.Operations.{Found, free_found, Renewed, updated_renewed, IsKept}
+use Rattle.amm_pair.proofs.Operations.{Found, free_found, Renewed, updated_renewed, IsKept, BothSent, both_sent_each, both_only, both_pairs, both_totals}
 use Rattle.amm_pair.proofs.Ending.{Ended, ended_kept, ended_sound, ended_per_share}
 use Rattle.amm_pair.proofs.Shares.{Grown, fee_grown, grown_only, fee_due_within, no_fee_due, not_zero}
 
 -- a burn that pays out: its shares end, and then each part is sent
 pub record PaidOut (pool : List ℕ) (shares : ℕ) (parts : BurnReceipt) (old new : Ledger) : Type 0 where
   pub fewer : Ledger
-  pub half : Ledger
   pub taken : Taken (assets.Share pool) (holders.Pool pool) shares old fewer
-  pub first : Sent (asset0 pool) (holders.Pool pool) parts.amount0 fewer half
-  pub second : Sent (asset1 pool) (holders.Pool pool) parts.amount1 half new
-
-pub pay_out_paid : (l : Ledger) (pool : List ℕ) (to : Holder) (shares : ℕ) (parts : BurnReceipt) (made : Made (Unit {0})) → pay_out l pool to shares parts ≡ Ok made → PaidOut pool shares parts l made.ledger
-unfolding pay_out
-pay_out_paid l pool to shares parts made is =
-    let one = given (retire l (assets.Share pool) (holders.Pool pool) shares) _ made is in
-    let two = given (transfer one.value.ledger (asset0 pool) (holders.Pool pool) to parts.amount0) _ made one.after in
-    record {
-      fewer = one.value.ledger;
-      half = two.value.ledger;
-      taken = (retire_taken l (assets.Share pool) (holders.Pool pool) shares one.value one.was).1;
-      first = transfer_sent one.value.ledger (asset0 pool) (holders.Pool pool) to parts.amount0 two.value two.was;
-      second = transfer_sent two.value.ledger (asset1 pool) (holders.Pool pool) to parts.amount1 made two.after;
-    }
-
-pub pay_out_pairs : (l : Ledger) (pool : List ℕ) (to : Holder) (shares : ℕ) (parts : BurnReceipt) (made : Made (Unit {0})) → pay_out l pool to shares parts ≡ Ok made → made.ledger.pairs ≡ l.pairs
-pay_out_pairs l pool to shares parts made is = let p = pay_out_paid l pool to shares parts made is in p.second.rest.pairs ∙ p.first.rest.pairs ∙ p.taken.rest.pairs
+  pub sent : BothSent pool parts.amount0 parts.amount1 fewer new
 
 parts_fit : (l : Ledger) (pool : List ℕ) (s fee : ℕ) → ((parts_of l pool s fee).amount0 * s ≤ own_shares l pool * held0 l pool) × ((parts_of l pool s fee).amount1 * s ≤ own_shares l pool * held1 l pool)
 unfolding parts_of
@@ -75,7 +57,7 @@ pub record Burned (old : Ledger) (pool : List ℕ) (made : Ledger) (receipt : Bu
   pub mid : Ledger
   pub paid : PaidOut pool (own_shares old pool) (parts_of old pool (supply old pool + fee_due old pool was) (fee_due old pool was)) (with_fee old pool (fee_due old pool was)) mid
   pub now : PairRecord
-  pub renewed : Renewed mid pool (after_fee (is_nobody old.fee_to) was) now
+  pub renewed : Renewed mid pool was now
   pub after : made ≡ with_pair mid pool (with_product (is_nobody old.fee_to) now)
 
 pub burn_burned : (l : Ledger) (pool : List ℕ) (to : Holder) (made : Made BurnReceipt) → burn l pool to ≡ Ok made → Burned l pool made.ledger made.answer
@@ -88,8 +70,9 @@ burn_burned l pool to made is =
     let parts : BurnReceipt = parts_of l pool s fee in
     let some = not_refused (s == 0) code.InsufficientLiquidityBurned _ made first.after in
     let pays = not_refused (parts.amount0 == 0 || parts.amount1 == 0) code.InsufficientLiquidityBurned _ made some.1 in
-    let out = given (pay_out (with_fee l pool fee) pool to (own_shares l pool) parts) _ made pays.1 in
-    let second = given (updated out.value.ledger pool (after_fee (is_nobody l.fee_to) was)) _ made out.after in
+    let ended = given (retire (with_fee l pool fee) (assets.Share pool) (holders.Pool pool) (own_shares l pool)) _ made pays.1 in
+    let out = given (both_sent ended.value.ledger pool parts.amount0 parts.amount1 to) _ made ended.after in
+    let second = given (updated out.value.ledger pool was) _ made out.after in
     let e = same_answer (record { ledger = with_pair out.value.ledger pool (with_product (is_nobody l.fee_to) second.value); answer = parts }) made second.after in
     record {
       was = was;
@@ -97,9 +80,13 @@ burn_burned l pool to made is =
       some = not_zero s some.0;
       fee = ap (λ (m : Made BurnReceipt). m.answer.fee_shares) (sym e) ∙ parts_fee l pool s fee;
       mid = out.value.ledger;
-      paid = pay_out_paid (with_fee l pool fee) pool to (own_shares l pool) parts out.value out.was;
+      paid = record {
+        fewer = ended.value.ledger;
+        taken = (retire_taken (with_fee l pool fee) (assets.Share pool) (holders.Pool pool) (own_shares l pool) ended.value ended.was).1;
+        sent = both_sent_each ended.value.ledger pool parts.amount0 parts.amount1 to out.value out.was;
+      };
       now = second.value;
-      renewed = updated_renewed out.value.ledger pool (after_fee (is_nobody l.fee_to) was) second.value second.was;
+      renewed = updated_renewed out.value.ledger pool was second.value second.was;
       after = ap (λ (m : Made BurnReceipt). m.ledger) (sym e);
     }
 
@@ -126,10 +113,10 @@ module _ (l : Ledger) (pool : List ℕ) (to : Holder) (made : Made BurnReceipt) 
   only : OnlyAt pool l m.mid
   only = only_at_then pool l given_fee m.mid (grown_only pool fee l given_fee grown)
       (only_at_then pool given_fee m.paid.fewer m.mid (taken_only pool (own_shares l pool) given_fee m.paid.fewer m.paid.taken)
-      (only_at_then pool m.paid.fewer m.paid.half m.mid (sent_only (asset0 pool) pool parts.amount0 m.paid.fewer m.paid.half m.paid.first) (sent_only (asset1 pool) pool parts.amount1 m.paid.half m.mid m.paid.second)))
+      (both_only pool parts.amount0 parts.amount1 m.paid.fewer m.mid m.paid.sent))
 
   still : pair_of m.mid.pairs pool ≡ Some m.was
-  still = ap (λ (ps : Pairs). pair_of ps pool) (m.paid.second.rest.pairs ∙ m.paid.first.rest.pairs ∙ m.paid.taken.rest.pairs ∙ grown.rest.pairs) ∙ m.found.there
+  still = ap (λ (ps : Pairs). pair_of ps pool) (both_pairs pool parts.amount0 parts.amount1 m.paid.fewer m.mid m.paid.sent ∙ m.paid.taken.rest.pairs ∙ grown.rest.pairs) ∙ m.found.there
 
   abbrev ending : Ended l pool made.ledger
   ending = record { was = m.was; found = m.found; mid = m.mid; only = only; still = still; now = m.now; renewed = m.renewed; after = m.after }
@@ -142,24 +129,24 @@ module _ (l : Ledger) (pool : List ℕ) (to : Holder) (made : Made BurnReceipt) 
     covers = before.covered m.found.free
 
     left : supply m.mid pool + own_shares l pool ≡ s
-    left = omega (arith, m.paid.second.totals (assets.Share pool), m.paid.first.totals (assets.Share pool), m.paid.taken.whole, grown.whole)
+    left = omega (arith, both_totals pool parts.amount0 parts.amount1 m.paid.fewer m.mid m.paid.sent (assets.Share pool), m.paid.taken.whole, grown.whole)
 
     start0 : held0 m.paid.fewer pool ≡ held0 l pool
     start0 = m.paid.taken.others (asset0 pool) (holders.Pool pool) (share_not_token pool (pool_token0 pool)) ∙ grown.others (asset0 pool) (holders.Pool pool) (share_not_token pool (pool_token0 pool))
 
-    start1 : held1 m.paid.half pool ≡ held1 l pool
-    start1 = m.paid.first.others (asset1 pool) (holders.Pool pool) (tokens_apart (pool_token1 pool) (pool_token0 pool) (λ e. apart (sym e)))
+    start1 : held1 m.paid.sent.half pool ≡ held1 l pool
+    start1 = m.paid.sent.first.others (asset1 pool) (holders.Pool pool) (tokens_apart (pool_token1 pool) (pool_token0 pool) (λ e. apart (sym e)))
         ∙ m.paid.taken.others (asset1 pool) (holders.Pool pool) (share_not_token pool (pool_token1 pool)) ∙ grown.others (asset1 pool) (holders.Pool pool) (share_not_token pool (pool_token1 pool))
 
-    end0 : held0 m.mid pool ≡ held0 m.paid.half pool
-    end0 = m.paid.second.others (asset0 pool) (holders.Pool pool) (tokens_apart (pool_token0 pool) (pool_token1 pool) apart)
+    end0 : held0 m.mid pool ≡ held0 m.paid.sent.half pool
+    end0 = m.paid.sent.second.others (asset0 pool) (holders.Pool pool) (tokens_apart (pool_token0 pool) (pool_token1 pool) apart)
 
     product : (m.was.r0 * m.was.r1) * (supply m.mid pool * supply m.mid pool) ≤ (held0 m.mid pool * held1 m.mid pool) * (s * s)
     product =
         let fit = parts_fit l pool s fee in
         burned_at_most s (own_shares l pool) m.was.r0 m.was.r1 (held0 l pool) (held1 l pool) parts.amount0 parts.amount1 (held0 m.mid pool) (held1 m.mid pool) (supply m.mid pool)
-        covers.first covers.second fit.0 fit.1 (omega (arith, m.paid.first.funds, start0)) (omega (arith, m.paid.second.funds, start1))
-        (omega (arith, m.paid.first.least, start0, end0)) (omega (arith, m.paid.second.least, start1)) left
+        covers.first covers.second fit.0 fit.1 (omega (arith, m.paid.sent.first.funds, start0)) (omega (arith, m.paid.sent.second.funds, start1))
+        (omega (arith, m.paid.sent.first.least, start0, end0)) (omega (arith, m.paid.sent.second.least, start1)) left
 
     positive : 0 < s
     positive = from_apart s m.some

@@ -26,7 +26,7 @@ use Rattle.amm_pair.proofs.Shares.{mint_kept}
 use Rattle.amm_pair.proofs.Burning.{burn_kept}
 use Rattle.amm_pair.proofs.Lending.{Lent, lend_lent, lent_there, lent_only, lend_sound, Returned, give_back_returned, returned_there, returned_only, give_back_sound, swap_kept}
 
-pub later_sync : (ledger : Ledger) (pool : List ℕ) (made : Made (Unit {0})) → sync ledger pool ≡ Ok made → Later ledger made.ledger
+pub later_sync : (ledger : Ledger) (pool : List ℕ) (made : Made PairRecord) → sync ledger pool ≡ Ok made → Later ledger made.ledger
 later_sync ledger pool made is = (sync_kept ledger pool made is).later
 
 pub later_skim : (ledger : Ledger) (pool : List ℕ) (to : Holder) (made : Made SkimReceipt) → pool_token0 pool ≢ pool_token1 pool → skim ledger pool to ≡ Ok made → Later ledger made.ledger

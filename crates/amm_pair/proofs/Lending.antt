@@ -1,24 +1,22 @@
 -- What an accepted loan, its return and a swap leave.
-use Rattle.std.proofs.Common.{◌≡◌, ◌≤◌, ◌-◌, ◌*◌, ℕ, nat_le, ◌==◌, ◌&&◌, ◌||◌, not, List, Option, Some, None, Ok, refl, sym, ap, ◌∙◌, subst, arith}
+use Rattle.std.proofs.Common.{◌≡◌, ◌≤◌, ◌-◌, ◌*◌, ℕ, nat_le, ◌==◌, ◌&&◌, ◌||◌, not, List, Option, Some, None, Ok, refl, sym, ap, ◌∙◌, subst}
 use Rattle.std.proofs.lemmas.Bool.{not-false}
 use Rattle.amm_names.specs.declared.holder.Holder.{Holder}
-use Rattle.amm_names.specs.declared.holder.Holder.TheVariants as holders
 use Rattle.amm_names.specs.declared.holder.Asset.TheVariants as assets
 use Rattle.amm_model.specs.declared.pair.PairRecord.{PairRecord}
 use Rattle.amm_model.specs.declared.pair.SwapReceipt.{SwapReceipt}
 use Rattle.amm_model.specs.declared.fault.Refusal.TheVariants as code
 use Rattle.amm_names.specs.Pools.{pool_fee}
-use Rattle.amm_model.specs.Ledger.{Ledger, Made, Pairs, pair_of, set_pair, with_pair, transfer}
-use Rattle.amm_model.specs.Pools.{asset0, asset1, held0, held1, supply, Terms}
-use Rattle.amm_model.specs.Operations.{if_there, free_pair, renewed, updated, locked, unlocked, is_token_of, lend, open_loan, came_in, keeps_product, give_back, swap}
+use Rattle.amm_model.specs.Ledger.{Ledger, Made, Pairs, pair_of, set_pair, with_pair}
+use Rattle.amm_model.specs.Pools.{held0, held1, supply, Terms}
+use Rattle.amm_model.specs.Operations.{if_there, free_pair, renewed, updated, locked, unlocked, is_token_of, both_sent, lendable, lend, open_loan, came_in, keeps_product, settled, give_back, swap}
 use Rattle.amm_model.specs.Sound.{IsSoundPair, IsSound, IsOpen, ProductKept}
 use Rattle.amm_pool.proofs.Products.{product_kept}
 use Rattle.amm_model.proofs.Guards.{Given, given, not_refused, same_answer}
 use Rattle.amm_model.proofs.Names.{some_there, one_value, pair_of-set_here}
-use Rattle.amm_model.proofs.Transfers.{transfer_sent}
 use Rattle.amm_model.proofs.Soundness.{OnlyAt, only_at_then, same_only, with_pair_only, sound_but_at}
 use Rattle.amm_model.proofs.Laters.{Kept, kept_at}
-use Rattle.amm_pair.proofs.Operations.{Found, free_found, Renewed, updated_renewed, renewed_small, backed_grown, settled_sound, BothSent, both_only, both_pairs, sent_sound}
+use Rattle.amm_pair.proofs.Operations.{Found, free_found, Renewed, updated_renewed, renewed_small, backed_grown, settled_sound, BothSent, both_sent_each, both_only, both_pairs, sent_sound}
 
 -- what a loan leaves: the pair was free, its record is locked, and the outputs are gone
 pub record Lent (old : Ledger) (pool : List ℕ) (out0 out1 : ℕ) (made : Made PairRecord) : Type 0 where
@@ -27,27 +25,29 @@ pub record Lent (old : Ledger) (pool : List ℕ) (out0 out1 : ℕ) (made : Made 
   pub sent : BothSent pool out0 out1 (with_pair old pool (locked was)) made.ledger
   pub keeps : made.answer ≡ locked was
 
+-- a pair that may lend is there and free
+pub lendable_found : (ledger : Ledger) (pool : List ℕ) (out0 out1 : ℕ) (to : Holder) (pair : PairRecord) → lendable ledger pool out0 out1 to ≡ Ok pair → Found ledger pool pair
+unfolding lendable
+lendable_found ledger pool out0 out1 to pair is =
+    let first = given (free_pair ledger pool) _ pair is in
+    let was : PairRecord = first.value in
+    let asked = not_refused (out0 == 0 && out1 == 0) code.InsufficientOutputAmount _ pair first.after in
+    let enough = not_refused (nat_le was.r0 out0 || nat_le was.r1 out1) code.InsufficientLiquidity _ pair asked.1 in
+    let allowed = not_refused (is_token_of pool to) code.InvalidTo _ pair enough.1 in
+    subst (Found ledger pool) (same_answer was pair allowed.1) (free_found ledger pool was first.was)
+
 pub lend_lent : (ledger : Ledger) (pool : List ℕ) (out0 out1 : ℕ) (to : Holder) (made : Made PairRecord) → lend ledger pool out0 out1 to ≡ Ok made → Lent ledger pool out0 out1 made
 unfolding lend
 lend_lent ledger pool out0 out1 to made is =
-    let first = given (free_pair ledger pool) _ made is in
+    let first = given (lendable ledger pool out0 out1 to) _ made is in
     let was : PairRecord = first.value in
-    let asked = not_refused (out0 == 0 && out1 == 0) code.InsufficientOutputAmount _ made first.after in
-    let enough = not_refused (nat_le was.r0 out0 || nat_le was.r1 out1) code.InsufficientLiquidity _ made asked.1 in
-    let allowed = not_refused (is_token_of pool to) code.InvalidTo _ made enough.1 in
     let start : Ledger = with_pair ledger pool (locked was) in
-    let second = given (transfer start (asset0 pool) (holders.Pool pool) to out0) _ made allowed.1 in
-    let third = given (transfer second.value.ledger (asset1 pool) (holders.Pool pool) to out1) _ made second.after in
-    let e = same_answer (record { ledger = third.value.ledger; answer = locked was }) made third.after in
+    let second = given (both_sent start pool out0 out1 to) _ made first.after in
+    let e = same_answer (record { ledger = second.value.ledger; answer = locked was }) made second.after in
     record {
       was = was;
-      found = free_found ledger pool was first.was;
-      sent = subst (λ (m : Made PairRecord). BothSent pool out0 out1 start m.ledger) e
-          record {
-            half = second.value.ledger;
-            first = transfer_sent start (asset0 pool) (holders.Pool pool) to out0 second.value second.was;
-            second = transfer_sent second.value.ledger (asset1 pool) (holders.Pool pool) to out1 third.value third.was;
-          };
+      found = lendable_found ledger pool out0 out1 to was first.was;
+      sent = subst (λ (m : Made PairRecord). BothSent pool out0 out1 start m.ledger) e (both_sent_each start pool out0 out1 to second.value second.was);
       keeps = ap (λ (m : Made PairRecord). m.answer) (sym e);
     }
 
@@ -113,7 +113,7 @@ was_there None pair is = cc
 was_there (Some p) pair is = ap Some (same_answer p pair is)
 
 pub give_back_returned : (ledger : Ledger) (pool : List ℕ) (out0 out1 : ℕ) (made : Made SwapReceipt) → give_back ledger pool out0 out1 ≡ Ok made → Returned ledger pool made.ledger
-unfolding give_back
+unfolding give_back settled
 give_back_returned ledger pool out0 out1 made is =
     let first = given (if_there (pair_of ledger.pairs pool)) _ made is in
     let was : PairRecord = first.value in

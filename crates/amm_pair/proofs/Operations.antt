@@ -15,7 +15,7 @@ use Rattle.amm_model.specs.Formulas.{IsBacked, grown}
 use Rattle.amm_model.specs.Ledger.{Ledger, Made, Pairs, balance, total, pair_of, set_pair, with_pair, transfer, is_listed}
 use Rattle.amm_model.specs.declared.limits.TheConstants.{AMOUNT_LIMIT, FIRST_LOCKED, RESERVE_LIMIT}
 use Rattle.amm_model.specs.Pools.{asset0, asset1, held0, held1, supply}
-use Rattle.amm_model.specs.Operations.{if_free, free_pair, renewed, updated_to, updated, sync, skim, excess}
+use Rattle.amm_model.specs.Operations.{if_free, free_pair, renewed, updated_to, updated, sync, both_sent, skim, excess}
 use Rattle.amm_model.specs.Sound.{IsSmall, IsCovered, IsSoundPair, IsSound}
 use Rattle.amm_model.proofs.Guards.{given, past_refusal, same_answer}
 use Rattle.amm_model.proofs.Names.{some_there, pair_of-set_here}
@@ -111,7 +111,7 @@ pub record Synced (old : Ledger) (pool : List ℕ) (made : Ledger) : Type 0 wher
   pub renewed : Renewed old pool was now
   pub after : made ≡ with_pair old pool now
 
-pub sync_synced : (ledger : Ledger) (pool : List ℕ) (made : Made (Unit {0})) → sync ledger pool ≡ Ok made → Synced ledger pool made.ledger
+pub sync_synced : (ledger : Ledger) (pool : List ℕ) (made : Made PairRecord) → sync ledger pool ≡ Ok made → Synced ledger pool made.ledger
 unfolding sync
 sync_synced ledger pool made is =
     let first = given (free_pair ledger pool) _ made is in
@@ -121,10 +121,10 @@ sync_synced ledger pool made is =
       found = free_found ledger pool first.value first.was;
       now = second.value;
       renewed = updated_renewed ledger pool first.value second.value second.was;
-      after = ap (λ (m : Made (Unit {0})). m.ledger) (sym (same_answer (record { ledger = with_pair ledger pool second.value; answer = tt }) made second.after));
+      after = ap (λ (m : Made PairRecord). m.ledger) (sym (same_answer (record { ledger = with_pair ledger pool second.value; answer = second.value }) made second.after));
     }
 
-pub sync_sound : (ledger : Ledger) (pool : List ℕ) (made : Made (Unit {0})) → IsSound ledger → sync ledger pool ≡ Ok made → IsSound made.ledger
+pub sync_sound : (ledger : Ledger) (pool : List ℕ) (made : Made PairRecord) → IsSound ledger → sync ledger pool ≡ Ok made → IsSound made.ledger
 sync_sound ledger pool made sound is =
     let done = sync_synced ledger pool made is in
     let before = sound.pairs pool done.was done.found.there in
@@ -142,6 +142,16 @@ pub record BothSent (pool : List ℕ) (n0 n1 : ℕ) (old new : Ledger) : Type 0 
   pub half : Ledger
   pub first : Sent (asset0 pool) (holders.Pool pool) n0 old half
   pub second : Sent (asset1 pool) (holders.Pool pool) n1 half new
+
+pub both_sent_each : (l : Ledger) (pool : List ℕ) (n0 n1 : ℕ) (to : Holder) (made : Made (Unit {0})) → both_sent l pool n0 n1 to ≡ Ok made → BothSent pool n0 n1 l made.ledger
+unfolding both_sent
+both_sent_each l pool n0 n1 to made is =
+    let first = given (transfer l (asset0 pool) (holders.Pool pool) to n0) _ made is in
+    record {
+      half = first.value.ledger;
+      first = transfer_sent l (asset0 pool) (holders.Pool pool) to n0 first.value first.was;
+      second = transfer_sent first.value.ledger (asset1 pool) (holders.Pool pool) to n1 made first.after;
+    }
 
 module _ (pool : List ℕ) (n0 n1 : ℕ) (old new : Ledger) (sent : BothSent pool n0 n1 old new) where
   pub both_only : OnlyAt pool old new
@@ -179,18 +189,12 @@ skim_skimmed ledger pool to made is =
     let first = given (free_pair ledger pool) _ made is in
     let n0 : ℕ = held0 ledger pool - first.value.r0 in
     let n1 : ℕ = held1 ledger pool - first.value.r1 in
-    let second = given (transfer ledger (asset0 pool) (holders.Pool pool) to n0) _ made first.after in
-    let third = given (transfer second.value.ledger (asset1 pool) (holders.Pool pool) to n1) _ made second.after in
-    let e = same_answer (record { ledger = third.value.ledger; answer = excess ledger pool first.value }) made third.after in
+    let second = given (both_sent ledger pool n0 n1 to) _ made first.after in
+    let e = same_answer (record { ledger = second.value.ledger; answer = excess ledger pool first.value }) made second.after in
     record {
       was = first.value;
       found = free_found ledger pool first.value first.was;
-      sent = subst (λ (m : Made SkimReceipt). BothSent pool n0 n1 ledger m.ledger) e
-          record {
-            half = second.value.ledger;
-            first = transfer_sent ledger (asset0 pool) (holders.Pool pool) to n0 second.value second.was;
-            second = transfer_sent second.value.ledger (asset1 pool) (holders.Pool pool) to n1 third.value third.was;
-          };
+      sent = subst (λ (m : Made SkimReceipt). BothSent pool n0 n1 ledger m.ledger) e (both_sent_each ledger pool n0 n1 to second.value second.was);
     }
 
 -- a pool that is still covered after it sent something
@@ -222,7 +226,7 @@ skim_sound ledger pool to made apart sound is =
 
 -- ---- what a sync and a skim keep
 
-module _ (ledger : Ledger) (pool : List ℕ) (made : Made (Unit {0})) (is : sync ledger pool ≡ Ok made) where
+module _ (ledger : Ledger) (pool : List ℕ) (made : Made PairRecord) (is : sync ledger pool ≡ Ok made) where
   synced : Synced ledger pool made.ledger
   synced = sync_synced ledger pool made is
 

@@ -16,7 +16,7 @@ use Rattle.amm_model.specs.Root.{root_of}
 use Rattle.amm_model.specs.Ledger.{Ledger, Made, Pairs, balance, total, added, pair_of, with_pair}
 use Rattle.amm_model.specs.declared.limits.TheConstants.{AMOUNT_LIMIT, FIRST_LOCKED}
 use Rattle.amm_model.specs.Pools.{asset0, asset1, held0, held1, supply}
-use Rattle.amm_model.specs.Operations.{free_pair, updated, is_nobody, fee_due, with_fee, after_fee, with_product, shares_for, with_shares, minted, mint, PerShareKept}
+use Rattle.amm_model.specs.Operations.{free_pair, updated, is_nobody, fee_due, with_fee, with_product, shares_for, with_shares, mint, PerShareKept}
 use Rattle.amm_model.specs.Sound.{IsCovered, IsSoundPair, IsSound}
 use Rattle.amm_model.proofs.LedgerLemmas.{balance_within_total}
 use Rattle.amm_model.proofs.Guards.{given, not_refused, same_answer}
@@ -121,6 +121,10 @@ no_fee_due l pool pair none = by_test (is_nobody l.fee_to)
     by_test true = refl
     by_test false = ap (λ (n : ℕ). fee_shares_of n pair.r0 pair.r1 pair.k_last) none ∙ no_fee pair.r0 pair.r1 pair.k_last
 
+-- the ledger with the fee and n shares given
+abbrev minted : Ledger → List ℕ → Holder → (fee n : ℕ) → Ledger
+minted l pool to fee n = with_shares (with_fee l pool fee) pool to (supply l pool + fee) n
+
 -- what a mint leaves
 pub record Minted (old : Ledger) (pool : List ℕ) (to : Holder) (made : Ledger) (receipt : MintReceipt) : Type 0 where
   pub was : PairRecord
@@ -130,7 +134,7 @@ pub record Minted (old : Ledger) (pool : List ℕ) (to : Holder) (made : Ledger)
   pub mid : Ledger
   pub mid_is : mid ≡ minted old pool to (fee_due old pool was) (shares_for old pool was (supply old pool + fee_due old pool was))
   pub now : PairRecord
-  pub renewed : Renewed mid pool (after_fee (is_nobody old.fee_to) was) now
+  pub renewed : Renewed mid pool was now
   pub after : made ≡ with_pair mid pool (with_product (is_nobody old.fee_to) now)
 
 pub not_zero : (n : ℕ) → (n == 0) ≡ false → n ≢ 0
@@ -145,7 +149,7 @@ mint_minted l pool to made is =
     let n : ℕ = shares_for l pool was (supply l pool + fee) in
     let some = not_refused (n == 0) code.InsufficientLiquidityMinted _ made first.after in
     let mid : Ledger = minted l pool to fee n in
-    let second = given (updated mid pool (after_fee (is_nobody l.fee_to) was)) _ made some.1 in
+    let second = given (updated mid pool was) _ made some.1 in
     let e = same_answer (record { ledger = with_pair mid pool (with_product (is_nobody l.fee_to) second.value); answer = record { shares = n; fee_shares = fee } }) made second.after in
     record {
       was = was;
@@ -155,7 +159,7 @@ mint_minted l pool to made is =
       mid = mid;
       mid_is = refl;
       now = second.value;
-      renewed = updated_renewed mid pool (after_fee (is_nobody l.fee_to) was) second.value second.was;
+      renewed = updated_renewed mid pool was second.value second.was;
       after = ap (λ (m : Made MintReceipt). m.ledger) (sym e);
     }
 

@@ -1,5 +1,5 @@
--- A loan and a swap as the code takes them are the loan and the swap.
-use Rattle.std.proofs.Common.{◌≡◌, ℕ, nat_le, nat_lt, ◌==◌, ◌&&◌, ◌||◌, not, Bool, true, false, List, Some, Result, Ok, Err, refl, sym, ap, ◌∙◌}
+-- A swap in one go is the swap.
+use Rattle.std.proofs.Common.{◌≡◌, ℕ, nat_lt, ◌==◌, ◌&&◌, not, Bool, true, false, List, Some, Result, Ok, Err, refl, sym, ap, ◌∙◌}
 use Rattle.std.specs.Prelude.{if◌then◌else◌}
 use Rattle.amm_names.specs.declared.holder.Holder.{Holder}
 use Rattle.amm_names.specs.declared.holder.Holder.TheVariants as holders
@@ -13,13 +13,12 @@ use Rattle.amm_model.specs.Outcome.{◌>>=◌, refuse_if}
 use Rattle.amm_model.specs.Ledger.{Ledger, Made, Outcome, Pairs, balance, done, moved, pair_of, set_pair, with_pair, transfer}
 use Rattle.amm_model.specs.Pools.{asset0, asset1, held0, held1}
 use Rattle.amm_model.specs.declared.limits.TheConstants.{RESERVE_LIMIT}
-use Rattle.amm_model.specs.Operations.{free_pair, renewed, updated_to, locked, unlocked, is_token_of, lend, came_in, keeps_product, give_back, swap}
-use Rattle.amm_model.proofs.Guards.{given, not_refused, same_answer}
+use Rattle.amm_model.specs.Operations.{renewed, updated_to, locked, unlocked, both_sent, lendable, lend, came_in, keeps_product, settled, give_back, swap}
 use Rattle.amm_model.proofs.Names.{some_there, pair_of-set_here}
-use Rattle.amm_model.proofs.Transfers.{transfer_sent}
 use Rattle.amm_state.proofs.BookLemmas.{set_pair-twice}
-use Rattle.amm_pair.specs.Straight.{both_sent, lendable, lend_from, lend_straight, settled, swap_straight}
-use Rattle.amm_pair.proofs.Operations.{free_found}
+use Rattle.amm_pair.specs.Straight.{swap_straight}
+use Rattle.amm_pair.proofs.Operations.{both_pairs, both_sent_each}
+use Rattle.amm_pair.proofs.Lending.{lendable_found}
 
 -- a transfer is the same whatever the pairs are
 transfer_beside : (l : Ledger) (ps : Pairs) (a : Asset) (f t : Holder) (n : ℕ) → transfer (record l { pairs = ps }) a f t n ≡ (transfer l a f t n >>= λ m. done (record m.ledger { pairs = ps }))
@@ -42,28 +41,10 @@ ends_same false false true u1 m n f g same = refl
 ends_same false false false true m n f g same = refl
 ends_same false false false false m n f g same = same
 
--- tests before a call, and the call behind them
-tests_apart : (t1 t2 t3 : Bool) (raw : Outcome PairRecord) (next : PairRecord → Outcome PairRecord) (pair : PairRecord) → raw ≡ next pair
-    → (refuse_if t1 code.InsufficientOutputAmount >>= λ _. (refuse_if t2 code.InsufficientLiquidity >>= λ _. (refuse_if t3 code.InvalidTo >>= λ _. raw)))
-    ≡ ((refuse_if t1 code.InsufficientOutputAmount >>= λ _. (refuse_if t2 code.InsufficientLiquidity >>= λ _. (refuse_if t3 code.InvalidTo >>= λ _. Ok pair))) >>= next)
-tests_apart true t2 t3 raw next pair same = refl
-tests_apart false true t3 raw next pair same = refl
-tests_apart false false true raw next pair same = refl
-tests_apart false false false raw next pair same = same
-
--- one call after another
-bind_apart : {A B C : Type 0} (r : Result A Refusal) (f : A → Result B Refusal) (g : B → Result C Refusal) → ((r >>= f) >>= g) ≡ (r >>= λ x. f x >>= g)
-bind_apart (Ok x) f g = refl
-bind_apart (Err why) f g = refl
-
 -- the return of a loan, where the record is known
 pub give_back_is : (ledger : Ledger) (pool : List ℕ) (out0 out1 : ℕ) (pair : PairRecord) → pair_of ledger.pairs pool ≡ Some pair → give_back ledger pool out0 out1 ≡ settled ledger pool pair out0 out1
-unfolding give_back settled
+unfolding give_back
 give_back_is ledger pool out0 out1 pair there = rw there refl
-
--- the outcome of a loan from this pair
-abbrev lent : PairRecord → Ledger → Outcome PairRecord
-lent pair ledger = Ok (record { ledger = ledger; answer = locked pair })
 
 module _ (ledger : Ledger) (pool : List ℕ) (out0 out1 : ℕ) (to : Holder) where
   -- the pairs while the pool lends
@@ -96,60 +77,26 @@ module _ (ledger : Ledger) (pool : List ℕ) (out0 out1 : ℕ) (to : Holder) whe
 
   -- and leave the pairs as they are
   pub both_still : (l : Ledger) (sent : Made (Unit {0})) → both_sent l pool out0 out1 to ≡ Ok sent → sent.ledger.pairs ≡ l.pairs
-  unfolding both_sent
-  both_still l sent is =
-      let first = given (transfer l (asset0 pool) (holders.Pool pool) to out0) _ sent is in
-      (transfer_sent first.value.ledger (asset1 pool) (holders.Pool pool) to out1 sent first.after).rest.pairs ∙ (transfer_sent l (asset0 pool) (holders.Pool pool) to out0 first.value first.was).rest.pairs
+  both_still l sent is = both_pairs pool out0 out1 l sent.ledger (both_sent_each l pool out0 out1 to sent is)
 
   -- what follows the tests of a swap
   abbrev straight_by : PairRecord → Outcome SwapReceipt
   straight_by pair = both_sent ledger pool out0 out1 to >>= λ sent. settled sent.ledger pool pair out0 out1
 
+  -- the loan that such a pair gives
+  abbrev lent_by : PairRecord → Outcome PairRecord
+  lent_by pair = both_sent (with_pair ledger pool (locked pair)) pool out0 out1 to >>= λ sent. Ok (record { ledger = sent.ledger; answer = locked pair })
+
   paid_same : (pair : PairRecord) → pair_of ledger.pairs pool ≡ Some pair → (r : Outcome (Unit {0})) → both_sent ledger pool out0 out1 to ≡ r
-      → (lend_from ledger pool pair out0 out1 to >>= λ lent. give_back lent.ledger pool out0 out1) ≡ (r >>= λ sent. settled sent.ledger pool pair out0 out1)
-  unfolding lend_from
+      → (lent_by pair >>= λ lent. give_back lent.ledger pool out0 out1) ≡ (r >>= λ sent. settled sent.ledger pool pair out0 out1)
   paid_same pair there (Err why) is = rw (both_beside ledger (during pair), is) refl
   paid_same pair there (Ok sent) is = rw (both_beside ledger (during pair), is) (return_settled pair there sent.ledger (both_still ledger sent is))
 
-  abbrev raw : PairRecord → Outcome PairRecord
-  raw pair = transfer (with_pair ledger pool (locked pair)) (asset0 pool) (holders.Pool pool) to out0 >>= λ first. (transfer first.ledger (asset1 pool) (holders.Pool pool) to out1 >>= λ second. lent pair second.ledger)
-
-  abbrev next : PairRecord → Outcome PairRecord
-  next pair = (transfer (with_pair ledger pool (locked pair)) (asset0 pool) (holders.Pool pool) to out0 >>= λ first. transfer first.ledger (asset1 pool) (holders.Pool pool) to out1) >>= λ sent. lent pair sent.ledger
-
-  pub lend_is_straight : lend ledger pool out0 out1 to ≡ lend_straight ledger pool out0 out1 to
-  unfolding lend lend_straight lendable lend_from both_sent
-  lend_is_straight = by (free_pair ledger pool)
-    where
-      by : (r : Result PairRecord Refusal)
-          → (r >>= λ pair. (refuse_if (out0 == 0 && out1 == 0) code.InsufficientOutputAmount >>= λ _. (refuse_if (nat_le pair.r0 out0 || nat_le pair.r1 out1) code.InsufficientLiquidity
-          >>= λ _. (refuse_if (is_token_of pool to) code.InvalidTo >>= λ _. raw pair))))
-          ≡ ((r >>= λ pair. (refuse_if (out0 == 0 && out1 == 0) code.InsufficientOutputAmount >>= λ _. (refuse_if (nat_le pair.r0 out0 || nat_le pair.r1 out1) code.InsufficientLiquidity
-          >>= λ _. (refuse_if (is_token_of pool to) code.InvalidTo >>= λ _. Ok pair)))) >>= next)
-      by (Err why) = refl
-      by (Ok pair) = tests_apart (out0 == 0 && out1 == 0) (nat_le pair.r0 out0 || nat_le pair.r1 out1) (is_token_of pool to) (raw pair) next pair
-          (sym (bind_apart (transfer (with_pair ledger pool (locked pair)) (asset0 pool) (holders.Pool pool) to out0) (λ first. transfer first.ledger (asset1 pool) (holders.Pool pool) to out1) (λ sent. lent pair sent.ledger)))
-
-  straight_unfolds : lend_straight ledger pool out0 out1 to ≡ (lendable ledger pool out0 out1 to >>= λ pair. lend_from ledger pool pair out0 out1 to)
-  unfolding lend_straight
-  straight_unfolds = refl
-
-  -- the pair that may lend is there
-  lendable_there : (pair : PairRecord) → lendable ledger pool out0 out1 to ≡ Ok pair → pair_of ledger.pairs pool ≡ Some pair
-  unfolding lendable
-  lendable_there pair is =
-      let first = given (free_pair ledger pool) _ pair is in
-      let was : PairRecord = first.value in
-      let asked = not_refused (out0 == 0 && out1 == 0) code.InsufficientOutputAmount _ pair first.after in
-      let enough = not_refused (nat_le was.r0 out0 || nat_le was.r1 out1) code.InsufficientLiquidity _ pair asked.1 in
-      let allowed = not_refused (is_token_of pool to) code.InvalidTo _ pair enough.1 in
-      (free_found ledger pool was first.was).there ∙ ap Some (same_answer was pair allowed.1)
-
   -- what follows the tests, once the pair was found
-  by_found : (r : Result PairRecord Refusal) → lendable ledger pool out0 out1 to ≡ r → (r >>= λ pair. lend_from ledger pool pair out0 out1 to) >>= (λ lent. give_back lent.ledger pool out0 out1) ≡ (r >>= straight_by)
+  by_found : (r : Result PairRecord Refusal) → lendable ledger pool out0 out1 to ≡ r → ((r >>= lent_by) >>= λ lent. give_back lent.ledger pool out0 out1) ≡ (r >>= straight_by)
   by_found (Err why) is = refl
-  by_found (Ok pair) is = paid_same pair (lendable_there pair is) _ refl
+  by_found (Ok pair) is = paid_same pair (lendable_found ledger pool out0 out1 to pair is).there _ refl
 
   pub swap_is_straight : swap ledger pool out0 out1 to ≡ swap_straight ledger pool out0 out1 to
-  unfolding swap swap_straight
-  swap_is_straight = ap (λ (lent : Outcome PairRecord). lent >>= λ l. give_back l.ledger pool out0 out1) (lend_is_straight ∙ straight_unfolds) ∙ by_found (lendable ledger pool out0 out1 to) refl
+  unfolding swap lend swap_straight
+  swap_is_straight = by_found (lendable ledger pool out0 out1 to) refl

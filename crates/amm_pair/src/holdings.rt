@@ -5,7 +5,7 @@ ghost use Rattle.amm_names.specs.Pools.{pool_token0, pool_token1};
 ghost use Rattle.amm_model.specs.Ledger.{total, transfer};
 ghost use Rattle.amm_model.specs.declared.limits.TheConstants.{AMOUNT_LIMIT};
 ghost use Rattle.amm_model.specs.Pools.{asset0, asset1, held0, held1, supply};
-ghost use Rattle.amm_model.specs.Operations.{own_shares};
+ghost use Rattle.amm_model.specs.Operations.{both_sent, own_shares};
 ghost use Rattle.amm_state.specs.Tx.{Meets};
 
 use amm_model::{Asset, Fault, Holder, PoolName};
@@ -44,14 +44,8 @@ pub(crate) fn own_shares(book: &Book, pool: &PoolName) -> u64
     book.balance(&Asset::Share(*pool), &Holder::Pool(*pool))
 }
 
-/// Sends units of the first token from the pool.
-pub(crate) fn send0(
-    alloc: Global,
-    tx: &mut Tx,
-    pool: &PoolName,
-    to: &Holder,
-    n: u64,
-) -> Result<(), Fault>
+// Sends units of the first token from the pool.
+fn send0(alloc: Global, tx: &mut Tx, pool: &PoolName, to: &Holder, n: u64) -> Result<(), Fault>
     requires { tx.old.mark ≡ Mark.Clean }
     ensures { Meets tx.old tx.new result (transfer tx.old.present (asset0 pool.now) (holders.Pool pool.now) to.now n) }
 {
@@ -59,17 +53,28 @@ pub(crate) fn send0(
     tx.move_units(alloc, &asset, &Holder::Pool(*pool), to, n)
 }
 
-/// Sends units of the second token from the pool.
-pub(crate) fn send1(
-    alloc: Global,
-    tx: &mut Tx,
-    pool: &PoolName,
-    to: &Holder,
-    n: u64,
-) -> Result<(), Fault>
+// Sends units of the second token from the pool.
+fn send1(alloc: Global, tx: &mut Tx, pool: &PoolName, to: &Holder, n: u64) -> Result<(), Fault>
     requires { tx.old.mark ≡ Mark.Clean }
     ensures { Meets tx.old tx.new result (transfer tx.old.present (asset1 pool.now) (holders.Pool pool.now) to.now n) }
 {
     let asset = Asset::Token(*pool.token1());
     tx.move_units(alloc, &asset, &Holder::Pool(*pool), to, n)
+}
+
+/// Sends units of both tokens from the pool.
+#[tactic(auto, unfolding(amm_model::specs::Operations::both_sent))]
+pub(crate) fn send_both(
+    alloc: Global,
+    tx: &mut Tx,
+    pool: &PoolName,
+    n0: u64,
+    n1: u64,
+    to: &Holder,
+) -> Result<(), Fault>
+    requires { tx.old.mark ≡ Mark.Clean }
+    ensures { Meets tx.old tx.new result (both_sent tx.old.present pool.now n0 n1 to.now) }
+{
+    send0(alloc, tx, pool, to, n0)?;
+    send1(alloc, tx, pool, to, n1)
 }

@@ -7,15 +7,18 @@
 //! the protocol's fee.
 #![tactic(auto)]
 
+mod halves;
 mod holdings;
 mod liquidity;
 mod loans;
 mod protocol;
 mod records;
 mod surplus;
+mod swaps;
 #[cfg(test)]
 mod tests;
 
 pub use liquidity::{burn, mint};
-pub use loans::{Loan, abandon_loan, close_loan, open_loan, swap};
+pub use loans::{Loan, abandon_loan, close_loan, open_loan};
 pub use surplus::{skim, sync};
+pub use swaps::swap;

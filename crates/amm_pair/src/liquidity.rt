@@ -1,14 +1,17 @@
 //! Liquidity: shares for what was brought to a pool, and what they stand for when they end.
 ghost use Rattle.std.specs.Prelude.{◌≡◌, ◌≢◌, ◌+◌, ◌*◌, ◌≤◌, ◌==◌, if◌then◌else◌, OnOk, IfOk};
+ghost use Rattle.amm_names.specs.declared.holder.Holder.TheVariants as holders;
+ghost use Rattle.amm_names.specs.declared.holder.Asset.TheVariants as assets;
+ghost use Rattle.amm_model.specs.Ledger.{retire};
 ghost use Rattle.amm_model.specs.Pools.{supply};
 ghost use Rattle.amm_model.specs.declared.limits.TheConstants.{FIRST_LOCKED, RESERVE_LIMIT, AMOUNT_LIMIT};
-ghost use Rattle.amm_model.specs.Operations.{mint, burn, parts_of, pay_out, shares_for, PerShareKept};
+ghost use Rattle.amm_model.specs.Operations.{mint, burn, both_sent, parts_of, shares_for, PerShareKept};
 ghost use Rattle.amm_model.specs.Later.{Later};
 ghost use Rattle.amm_model.specs.Sound.{IsSound, IsCovered};
 ghost use Rattle.amm_state.specs.Tx.{Meets};
 
-use crate::holdings::{held0, held1, own_shares, send0, send1, supply};
-use crate::protocol::{after_fee, fee_due, give_shares, is_nobody, take_fee, with_product};
+use crate::holdings::{held0, held1, own_shares, send_both, supply};
+use crate::protocol::{fee_due, give_shares, is_nobody, take_fee, with_product};
 use crate::records::{free_pair, updated};
 use amm_model::limits::FIRST_LOCKED;
 use amm_model::{Asset, BurnReceipt, Fault, Holder, MintReceipt, PairRecord, PoolName, Refusal};
@@ -29,7 +32,7 @@ pub fn mint(alloc: Global, tx: &mut Tx, pool: &PoolName, to: &Holder) -> Result<
     mint_at(alloc, tx, pool, to)
 }
 
-// The same, as its definition says.
+// The same; apart so that the check unfolds its definition here alone.
 #[tactic(auto, unfolding(amm_model::specs::Operations::mint))]
 fn mint_at(alloc: Global, tx: &mut Tx, pool: &PoolName, to: &Holder) -> Result<MintReceipt, Fault>
     requires clean { tx.old.mark ≡ Mark.Clean }
@@ -51,7 +54,7 @@ fn mint_at(alloc: Global, tx: &mut Tx, pool: &PoolName, to: &Holder) -> Result<M
     give_shares(alloc, tx, pool, to, before, shares)?;
     let b0 = held0(tx.book(), pool);
     let b1 = held1(tx.book(), pool);
-    let new = match updated(&after_fee(nobody, &pair), tx.book().time(), b0, b1) {
+    let new = match updated(&pair, tx.book().time(), b0, b1) {
         Ok(new) => new,
         Err(why) => return Err(tx.refuse(why)),
     };
@@ -105,7 +108,7 @@ pub fn burn(alloc: Global, tx: &mut Tx, pool: &PoolName, to: &Holder) -> Result<
     burn_at(alloc, tx, pool, to)
 }
 
-// The same, as its definition says.
+// The same; apart so that the check unfolds its definition here alone.
 #[tactic(auto, unfolding(amm_model::specs::Operations::burn))]
 fn burn_at(alloc: Global, tx: &mut Tx, pool: &PoolName, to: &Holder) -> Result<BurnReceipt, Fault>
     requires clean { tx.old.mark ≡ Mark.Clean }
@@ -128,10 +131,11 @@ fn burn_at(alloc: Global, tx: &mut Tx, pool: &PoolName, to: &Holder) -> Result<B
         return Err(tx.refuse(Refusal::InsufficientLiquidityBurned));
     }
     take_fee(alloc, tx, pool, fee)?;
-    pay_out(alloc, tx, pool, to, own, &parts)?;
+    end_shares(alloc, tx, pool, own)?;
+    send_parts(alloc, tx, pool, &parts, to)?;
     let b0 = held0(tx.book(), pool);
     let b1 = held1(tx.book(), pool);
-    let new = match updated(&after_fee(nobody, &pair), tx.book().time(), b0, b1) {
+    let new = match updated(&pair, tx.book().time(), b0, b1) {
         Ok(new) => new,
         Err(why) => return Err(tx.refuse(why)),
     };
@@ -154,35 +158,26 @@ fn parts_of(book: &Book, pool: &PoolName, before: u64, fee: u64) -> BurnReceipt
     }
 }
 
-// Ends the shares and sends the parts, which changes no pair.
-fn pay_out(
-    alloc: Global,
-    tx: &mut Tx,
-    pool: &PoolName,
-    to: &Holder,
-    own: u64,
-    parts: &BurnReceipt,
-) -> Result<(), Fault>
+// Ends shares that the pool has of itself, which changes no pair; apart so that this is shown once.
+fn end_shares(alloc: Global, tx: &mut Tx, pool: &PoolName, own: u64) -> Result<(), Fault>
     requires clean { tx.old.mark ≡ Mark.Clean }
-    ensures meets { Meets tx.old tx.new result (pay_out tx.old.present pool.now to.now own parts.now) }
+    ensures meets { Meets tx.old tx.new result (retire tx.old.present (assets.Share pool.now) (holders.Pool pool.now) own) }
     ensures pairs { OnOk result (tx.new.present.pairs ≡ tx.old.present.pairs) }
 {
-    pay_parts(alloc, tx, pool, to, own, parts)
+    tx.retire(alloc, &Asset::Share(*pool), &Holder::Pool(*pool), own)
 }
 
-#[tactic(auto, unfolding(amm_model::specs::Operations::pay_out))]
-fn pay_parts(
+// Sends what a burn pays, which changes no pair; apart so that this is shown once.
+fn send_parts(
     alloc: Global,
     tx: &mut Tx,
     pool: &PoolName,
-    to: &Holder,
-    own: u64,
     parts: &BurnReceipt,
+    to: &Holder,
 ) -> Result<(), Fault>
     requires clean { tx.old.mark ≡ Mark.Clean }
-    ensures { Meets tx.old tx.new result (pay_out tx.old.present pool.now to.now own parts.now) }
+    ensures meets { Meets tx.old tx.new result (both_sent tx.old.present pool.now parts.now.amount0 parts.now.amount1 to.now) }
+    ensures pairs { OnOk result (tx.new.present.pairs ≡ tx.old.present.pairs) }
 {
-    tx.retire(alloc, &Asset::Share(*pool), &Holder::Pool(*pool), own)?;
-    send0(alloc, tx, pool, to, parts.amount0)?;
-    send1(alloc, tx, pool, to, parts.amount1)
+    send_both(alloc, tx, pool, parts.amount0, parts.amount1, to)
 }

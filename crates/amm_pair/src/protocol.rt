@@ -4,7 +4,7 @@ ghost use Rattle.amm_names.specs.declared.holder.Asset.TheVariants as assets;
 ghost use Rattle.amm_model.specs.Ledger.{done, added};
 ghost use Rattle.amm_model.specs.declared.limits.TheConstants.{AMOUNT_LIMIT, RESERVE_LIMIT, FIRST_LOCKED};
 ghost use Rattle.amm_model.specs.Pools.{supply};
-ghost use Rattle.amm_model.specs.Operations.{is_nobody, fee_due, with_fee, with_shares, after_fee, with_product};
+ghost use Rattle.amm_model.specs.Operations.{is_nobody, fee_due, with_fee, with_shares, with_product};
 ghost use Rattle.amm_model.specs.Formulas.{IsBacked};
 ghost use Rattle.amm_state.specs.Tx.{Meets};
 
@@ -37,29 +37,17 @@ pub(crate) fn fee_due(book: &Book, pool: &PoolName, pair: &PairRecord) -> u64
     fee_shares(supply(book, pool), pair.r0, pair.r1, pair.k_last)
 }
 
-/// The record while the fee is taken.
-pub(crate) fn after_fee(nobody: bool, pair: &PairRecord) -> PairRecord
-    ensures { result ≡ after_fee nobody pair.now }
-{
-    if nobody {
-        PairRecord { k_last: 0, ..*pair }
-    } else {
-        *pair
-    }
-}
-
 /// The record at the end of a mint or a burn.
 pub(crate) fn with_product(nobody: bool, pair: &PairRecord) -> PairRecord
     requires { (pair.now.r0 ≤ RESERVE_LIMIT) × (pair.now.r1 ≤ RESERVE_LIMIT) }
     ensures { result ≡ with_product nobody pair.now }
 {
-    if nobody {
-        return *pair;
-    }
-    PairRecord {
-        k_last: pair.r0 as u128 * pair.r1 as u128,
-        ..*pair
-    }
+    let k_last = if nobody {
+        0
+    } else {
+        pair.r0 as u128 * pair.r1 as u128
+    };
+    PairRecord { k_last, ..*pair }
 }
 
 // Adds shares that the limit has room for.

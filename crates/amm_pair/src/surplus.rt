@@ -5,16 +5,16 @@ ghost use Rattle.amm_model.specs.Later.{Later};
 ghost use Rattle.amm_model.specs.Sound.{IsSound};
 ghost use Rattle.amm_state.specs.Tx.{Meets};
 
-use crate::holdings::{held0, held1, send0, send1};
+use crate::holdings::{held0, held1, send_both};
 use crate::records::{free_pair, updated};
 use amm_model::{Fault, Holder, PairRecord, PoolName, SkimReceipt};
 use amm_state::{Book, Mark, Tx};
 use std::alloc::Global;
 
-/// Makes what the pool has its reserves.
+/// Makes what the pool has its reserves, and answers its record then.
 ///
 /// Refused, in this order: NO_PAIR, LOCKED, OVERFLOW.
-pub fn sync(alloc: Global, tx: &mut Tx, pool: &PoolName) -> Result<(), Fault>
+pub fn sync(alloc: Global, tx: &mut Tx, pool: &PoolName) -> Result<PairRecord, Fault>
     requires clean { tx.old.mark ≡ Mark.Clean }
     requires sound { IsSound tx.old.present }
     ensures meets { Meets tx.old tx.new result (sync tx.old.present pool.now) }
@@ -23,9 +23,9 @@ pub fn sync(alloc: Global, tx: &mut Tx, pool: &PoolName) -> Result<(), Fault>
     sync_at(alloc, tx, pool)
 }
 
-// The same, as its definition says.
+// The same; apart so that the check unfolds its definition here alone.
 #[tactic(auto, unfolding(amm_model::specs::Operations::sync))]
-fn sync_at(alloc: Global, tx: &mut Tx, pool: &PoolName) -> Result<(), Fault>
+fn sync_at(alloc: Global, tx: &mut Tx, pool: &PoolName) -> Result<PairRecord, Fault>
     requires clean { tx.old.mark ≡ Mark.Clean }
     requires sound { IsSound tx.old.present }
     ensures { Meets tx.old tx.new result (sync tx.old.present pool.now) }
@@ -40,7 +40,8 @@ fn sync_at(alloc: Global, tx: &mut Tx, pool: &PoolName) -> Result<(), Fault>
         Ok(new) => new,
         Err(why) => return Err(tx.refuse(why)),
     };
-    tx.set_pair(alloc, pool, new)
+    tx.set_pair(alloc, pool, new)?;
+    Ok(new)
 }
 
 /// Sends what the pool has above its reserves, and answers how much that was.
@@ -58,7 +59,7 @@ pub fn skim(alloc: Global, tx: &mut Tx, pool: &PoolName, to: &Holder) -> Result<
     skim_at(alloc, tx, pool, to)
 }
 
-// The same, as its definition says.
+// The same; apart so that the check unfolds its definition here alone.
 #[tactic(auto, unfolding(amm_model::specs::Operations::skim))]
 fn skim_at(alloc: Global, tx: &mut Tx, pool: &PoolName, to: &Holder) -> Result<SkimReceipt, Fault>
     requires clean { tx.old.mark ≡ Mark.Clean }
@@ -70,8 +71,7 @@ fn skim_at(alloc: Global, tx: &mut Tx, pool: &PoolName, to: &Holder) -> Result<S
         Err(why) => return Err(tx.refuse(why)),
     };
     let excess = excess(tx.book(), pool, &pair);
-    send0(alloc, tx, pool, to, excess.sent0)?;
-    send1(alloc, tx, pool, to, excess.sent1)?;
+    send_both(alloc, tx, pool, excess.sent0, excess.sent1, to)?;
     Ok(excess)
 }
 

@@ -15,10 +15,11 @@ use Rattle.amm_model.specs.CommandView.{Move, Moves}
 use Rattle.amm_model.specs.Fits.{FitsMove, FitMoves, HasNames, HaveNames}
 use Rattle.amm_model.specs.Later.{Later}
 use Rattle.amm_model.specs.declared.fault.Fault.{Fault}
+use Rattle.amm_model.specs.declared.pair.PairRecord.{PairRecord}
 use Rattle.amm_model.specs.declared.pair.MintReceipt.{MintReceipt}
 use Rattle.amm_model.specs.declared.pair.SwapReceipt.{SwapReceipt}
 use Rattle.amm_model.specs.declared.path.RoutePath.{RoutePath}
-use Rattle.amm_model.specs.Meaning.{known, send, synced, as_answer, meaning, meaning_of_all}
+use Rattle.amm_model.specs.Meaning.{known, send, as_answer, reserves_told, meaning, meaning_of_all}
 use Rattle.amm_model.proofs.Guards.{given, same_answer}
 use Rattle.amm_state.specs.Tx.{Progress, Accepts, Meets}
 use Rattle.amm_state.proofs.Meets.{on_ok}
@@ -45,12 +46,6 @@ send_kept old actor asset to n made is =
     let second = given (transfer old asset (holders.User actor) to n) _ made first.after in
     subst (λ (k : Made Answer). Kept old k.ledger) (same_answer _ made second.after) (transfer_kept old asset actor to n second.value second.was)
 
-pub synced_kept : (old : Ledger) (pool : List ℕ) (made : Made Answer) → synced old pool ≡ Ok made → Kept old made.ledger
-unfolding synced
-synced_kept old pool made is =
-    let first = given (sync old pool) _ made is in
-    subst (λ (k : Made Answer). Kept old k.ledger) (same_answer _ made first.after) (sync_kept old pool first.value first.was)
-
 mutual
   unfolding meaning meaning_of_all
 
@@ -62,7 +57,7 @@ mutual
   step_kept (view.burn pool to) old actor made names fits is = answered old answers.Burn (burn old pool to) made (λ done e. burn_kept old pool to done e (tokens_differ pool names)) is
   step_kept (view.swap pool out0 out1 to) old actor made names fits is = answered old answers.Swap (swap old pool out0 out1 to) made (swap_kept old pool out0 out1 to) is
   step_kept (view.skim pool to) old actor made names fits is = answered old answers.Skim (skim old pool to) made (λ done e. skim_kept old pool to done e (tokens_differ pool names)) is
-  step_kept (view.sync pool) old actor made names fits is = synced_kept old pool made is
+  step_kept (view.sync pool) old actor made names fits is = answered old reserves_told (sync old pool) made (λ done e. sync_kept old pool done e) is
   step_kept (view.flash pool out0 out1 steps) old actor made names fits is =
       let lent = given (lend old pool out0 out1 (holders.User actor)) _ made is in
       let ran = given (meaning_of_all lent.value.ledger actor steps) _ made lent.after in
@@ -93,8 +88,8 @@ module _ (old new : Progress) where
   pub transfer_later : (actor : List ℕ) (asset : Asset) (to : Holder) (n : ℕ) (answer : Result Answer Fault) → Meets old new answer (send old.present actor asset to n) → OnOk answer (Later old.present new.present)
   transfer_later actor asset to n answer meets = on_ok (Later old.present) old new answer _ meets (λ made is. (send_kept old.present actor asset to n made is).later)
 
-  pub sync_later : (pool : List ℕ) (answer : Result Answer Fault) → Meets old new answer (synced old.present pool) → OnOk answer (Later old.present new.present)
-  sync_later pool answer meets = on_ok (Later old.present) old new answer _ meets (λ made is. (synced_kept old.present pool made is).later)
+  pub sync_later : (pool : List ℕ) (pair : PairRecord) → Accepts old new pair (sync old.present pool) → Later old.present new.present
+  sync_later pool pair accepted = (sync_kept old.present pool (made_by pair) accepted.gives).later
 
   pub mint_later : (pool : List ℕ) (to : Holder) (receipt : MintReceipt) → Accepts old new receipt (mint old.present pool to) → Later old.present new.present
   mint_later pool to receipt accepted = (mint_kept old.present pool to (made_by receipt) accepted.gives).later

@@ -4,13 +4,13 @@ ghost use Rattle.amm_model.specs.CommandView as view;
 ghost use Rattle.amm_model.specs.CommandView.{move_of_step, moves_of_steps};
 ghost use Rattle.amm_model.specs.Fits.{FitsMove, FitMoves};
 ghost use Rattle.amm_model.specs.Later.{Later};
-ghost use Rattle.amm_model.specs.Meaning.{meaning, meaning_of_all, synced};
+ghost use Rattle.amm_model.specs.Meaning.{meaning, meaning_of_all};
 ghost use Rattle.amm_model.specs.Sound.{IsSound};
 ghost use Rattle.amm_state.specs.Tx.{Meets};
 
 use crate::asset::send;
 use amm_factory::create;
-use amm_model::{Answer, Asset, Fault, Holder, PoolName, Refusal, Step, UserName};
+use amm_model::{Answer, Fault, Holder, PoolName, Refusal, Step, UserName};
 use amm_pair::{abandon_loan, burn, close_loan, mint, open_loan, skim, swap, sync};
 use amm_path::{add, remove, swap_exact_in, swap_exact_out};
 use amm_state::{Mark, Tx};
@@ -42,7 +42,13 @@ pub fn run_step(alloc: Global, tx: &mut Tx, actor: &UserName, step: &Step) -> Re
             to,
         } => Ok(Answer::Swap(swap(alloc, tx, pool, *out0, *out1, to)?)),
         Step::Skim { pool, to } => Ok(Answer::Skim(skim(alloc, tx, pool, to)?)),
-        Step::Sync { pool } => synced(alloc, tx, pool),
+        Step::Sync { pool } => {
+            let pair = sync(alloc, tx, pool)?;
+            Ok(Answer::Sync {
+                r0: pair.r0,
+                r1: pair.r1,
+            })
+        }
         Step::Flash {
             pool,
             out0,
@@ -77,26 +83,9 @@ pub fn run_step(alloc: Global, tx: &mut Tx, actor: &UserName, step: &Step) -> Re
     }
 }
 
-// Reserves follow balances, and are told.
-#[tactic(auto, unfolding(amm_model::specs::Meaning::synced))]
-fn synced(alloc: Global, tx: &mut Tx, pool: &PoolName) -> Result<Answer, Fault>
-    requires clean { tx.old.mark ≡ Mark.Clean }
-    requires sound { IsSound tx.old.present }
-    ensures meets { Meets tx.old tx.new result (synced tx.old.present pool.now) }
-    ensures sound { OnOk result (IsSound tx.new.present) }
-{
-    sync(alloc, tx, pool)?;
-    Ok(Answer::Sync {
-        r0: tx
-            .book()
-            .balance(&Asset::Token(*pool.token0()), &Holder::Pool(*pool)),
-        r1: tx
-            .book()
-            .balance(&Asset::Token(*pool.token1()), &Holder::Pool(*pool)),
-    })
-}
-
-// A loan to the actor, its steps, and its return.
+// A loan to the actor, its steps, and its return. It is not `amm_flash::flash`: any borrower's deed
+// is what that promises; here the steps are known and lent, and what they mean is promised itself.
+// `flash_script` shows that a script as such a borrower does the same.
 #[cycle(script)]
 fn flash(
     alloc: Global,

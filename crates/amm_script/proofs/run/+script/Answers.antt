@@ -6,7 +6,7 @@ use Rattle.amm_model.specs.CommandView.{moves_of_steps}
 use Rattle.amm_model.specs.Fits.{FitMoves}
 use Rattle.amm_model.proofs.Laters.{later_then, later_same}
 use Rattle.amm_script.proofs.Steps.{inner_fit, still_open, next_move, no_more_moves, first_fault, one_less, all_done, flash_opened, not_lent, not_run, not_returned, returned, returned_later}
-use Rattle.amm_script.proofs.Laws.{mint_later, swap_later, swap_in_later, swap_out_later}
+use Rattle.amm_script.proofs.Laws.{sync_later, mint_later, swap_later, swap_in_later, swap_out_later}
 use Rattle.amm_script.proofs.run.+script.Goals as goal
 
 pub run_steps-returns-in_err-run_step-clause-meets : goal.run_steps-returns-in_err-run_step-clause-meets
@@ -67,6 +67,10 @@ flash-returns-in-Err-clause-meets t c =
 pub run_step-flash-requires : goal.run_step-flash-requires
 run_step-flash-requires t c =
     (grind (arith, common_steps, the_lemmas, c.in-Flash.is, c.deref.ensures.value), (c.requires.clean, (c.requires.sound, inner_fit c.args.step.now _ _ _ c.in-Flash.steps _ c.deref.ensures.value c.in-Flash.is c.requires.fits)))
+
+pub run_step-returns-in_ok-pair-in-Sync-clause-later :
+    goal.run_step-returns-in_ok-pair-in-Sync-clause-later
+run_step-returns-in_ok-pair-in-Sync-clause-later t c = sync_later c.args.tx.now c.sync.new.tx _ _ c.in_ok-pair-in-Sync.ensures.meets
 
 pub run_step-returns-in_ok-mint-in-Mint-clause-later :
     goal.run_step-returns-in_ok-mint-in-Mint-clause-later

@@ -4,7 +4,7 @@ use Rattle.amm_model.specs.Sound.{IsSound, ProductKept}
 use Rattle.amm_state.proofs.Meets.{on_ok}
 use Rattle.amm_pair.proofs.Lending.{swap_sound, swap_product}
 use Rattle.amm_pair.proofs.Straight.{swap_is_straight}
-use Rattle.amm_pair.proofs.loans.swap.Goals as goal
+use Rattle.amm_pair.proofs.swaps.swap.Goals as goal
 
 pub returns-clause-meets : goal.returns-clause-meets
 returns-clause-meets c = rw (swap_is_straight c.args.tx.now.present c.args.pool.now c.args.out0 c.args.out1 c.args.to.now) c.swap_straight.ensures

@@ -2,7 +2,7 @@ use Rattle.std.proofs.Common.{◌≡◌, IsSome, Some, sym, subst}
 use Rattle.amm_model.proofs.Names.{some_there}
 use Rattle.amm_model.specs.Ledger.{Ledger, Pairs, pair_of}
 use Rattle.amm_pair.proofs.Straight.{both_still}
-use Rattle.amm_pair.proofs.loans.swap_straight.Goals as goal
+use Rattle.amm_pair.proofs.swaps.swap_straight.Goals as goal
 
 pub settle-requires-clause-there : goal.settle-requires-clause-there
 settle-requires-clause-there c =
