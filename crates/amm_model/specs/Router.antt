@@ -1,9 +1,8 @@
 -- What the router does: amounts along a path, swaps along it, and liquidity with minimums.
-use Rattle.std.specs.Prelude.{ℕ, ◌-◌, ◌==◌, Bool, ◌&&◌, ◌||◌, nat_lt, nat_le, if◌then◌else◌, List, [], ◌∷◌, length, map, slice_get, Result, Ok, ok_or}
+use Rattle.std.specs.Prelude.{ℕ, ◌-◌, ◌==◌, Bool, ◌&&◌, ◌||◌, nat_lt, nat_le, if◌then◌else◌, List, [], ◌∷◌, length, drop, slice_get, Result, Ok, ok_or}
 use Rattle.std.specs.Option.{is_some, unwrap_or}
 use Rattle.amm_names.specs.declared.holder.Holder.{Holder}
 use Rattle.amm_names.specs.declared.holder.Holder.TheVariants as holder
-use Rattle.amm_names.specs.declared.holder.Asset.{Asset}
 use Rattle.amm_names.specs.declared.holder.Asset.TheVariants as asset
 use Rattle.amm_names.specs.Pools.{pool_between, is_before}
 use Rattle.amm_model.specs.declared.pair.PairRecord.{PairRecord}
@@ -11,7 +10,6 @@ use Rattle.amm_model.specs.declared.pair.AddReceipt.{AddReceipt}
 use Rattle.amm_model.specs.declared.pair.RemoveReceipt.{RemoveReceipt}
 use Rattle.amm_model.specs.declared.pair.BurnReceipt.{BurnReceipt}
 use Rattle.amm_model.specs.declared.trade.Side.{Side}
-use Rattle.amm_model.specs.declared.trade.Trade.{Trade}
 use Rattle.amm_model.specs.declared.trade.Matched.{Matched}
 use Rattle.amm_model.specs.declared.path.RoutePath.{RoutePath}
 use Rattle.amm_model.specs.declared.command.AddWant.{AddWant}
@@ -21,7 +19,6 @@ use Rattle.amm_model.specs.declared.fault.Refusal.TheVariants as code
 use Rattle.amm_model.specs.Outcome.{◌>>=◌, refuse_if}
 use Rattle.amm_model.specs.Ledger.{Ledger, Outcome, done, transfer, pair_of}
 use Rattle.amm_model.specs.declared.limits.TheConstants.{AMOUNT_LIMIT}
-use Rattle.amm_model.specs.Pools.{asset0, asset1}
 use Rattle.amm_model.specs.Swap.{amount_out_of, amount_in_of, quote_of}
 use Rattle.amm_model.specs.Operations.{if_there, swap, mint, burn}
 use Rattle.amm_model.specs.Factory.{create}
@@ -40,133 +37,108 @@ side_of ledger from to fee = do
   pair ← if_there (pair_of ledger.pairs pool)
   Ok (seen_from pool (is_before from to) pair)
 
--- the trade that an input makes with the pool of two tokens (library, one round of getAmountsOut)
-unfoldable pub trade_out : Ledger → (from to : List ℕ) → (fee : ℕ) → ℕ → Result Trade Refusal
-trade_out ledger from to fee x = do
-  side ← side_of ledger from to fee
+-- what reserves pay for an input (library, getAmountOut)
+unfoldable pub paid_out : (fee x rin rout : ℕ) → Result ℕ Refusal
+paid_out fee x rin rout = do
   _ ← refuse_if (x == 0) code.InsufficientInputAmount
-  _ ← refuse_if (side.rin == 0 || side.rout == 0) code.InsufficientLiquidity
-  Ok (record { pool = side.pool; zero_in = side.zero_in; output = amount_out_of fee x side.rin side.rout })
+  _ ← refuse_if (rin == 0 || rout == 0) code.InsufficientLiquidity
+  Ok (amount_out_of fee x rin rout)
 
--- the trades that an input leads to, pool by pool from the first (library, getAmountsOut)
-unfoldable pub trades_out : Ledger → (from : List ℕ) → List (List ℕ) → List ℕ → ℕ → Result (List Trade) Refusal
-trades_out ledger from (to ∷ tokens) (fee ∷ fees) x = do
-  trade ← trade_out ledger from to fee x
-  later ← trades_out ledger to tokens fees trade.output
-  Ok (trade ∷ later)
-trades_out ledger from _ _ x = Ok []
-
--- what goes into the first pool, and the trades that follow from it, in order
-pub record Plan : Type 0 where
-  pub input : ℕ
-  pub trades : List Trade
-
--- what the pool of two tokens asks for an output, and the trade (library, one round of
--- getAmountsIn)
-unfoldable pub trade_in : Ledger → (from to : List ℕ) → (fee : ℕ) → ℕ → Result (ℕ × Trade) Refusal
-trade_in ledger from to fee y = do
-  side ← side_of ledger from to fee
+-- what reserves ask for an output (library, getAmountIn)
+unfoldable pub asked_in : (fee y rin rout : ℕ) → Result ℕ Refusal
+asked_in fee y rin rout = do
   _ ← refuse_if (y == 0) code.InsufficientOutputAmount
-  _ ← refuse_if (side.rin == 0 || side.rout == 0) code.InsufficientLiquidity
-  _ ← refuse_if (nat_le side.rout y) code.InsufficientLiquidity
-  Ok (amount_in_of fee y side.rin side.rout, record { pool = side.pool; zero_in = side.zero_in; output = y })
+  _ ← refuse_if (rin == 0 || rout == 0) code.InsufficientLiquidity
+  _ ← refuse_if (nat_le rout y) code.InsufficientLiquidity
+  Ok (amount_in_of fee y rin rout)
 
--- the plan that an output asks for, pool by pool from the last (library, getAmountsIn)
-unfoldable pub plan_in : Ledger → (from : List ℕ) → List (List ℕ) → List ℕ → ℕ → Result Plan Refusal
-plan_in ledger from (to ∷ tokens) (fee ∷ fees) y = do
-  later ← plan_in ledger to tokens fees y
-  asked ← trade_in ledger from to fee later.input
-  Ok (record { input = asked.0; trades = asked.1 ∷ later.trades })
-plan_in ledger from _ _ y = Ok (record { input = y; trades = [] })
+-- an input, and what each pool pays for the amount before, from the first pool on
+unfoldable pub amounts_from : Ledger → List (List ℕ) → List ℕ → ℕ → Result (List ℕ) Refusal
+amounts_from ledger (from ∷ to ∷ tokens) (fee ∷ fees) x = do
+  side ← side_of ledger from to fee
+  y ← paid_out fee x side.rin side.rout
+  amounts ← amounts_from ledger (to ∷ tokens) fees y
+  Ok (x ∷ amounts)
+amounts_from ledger tokens fees x = Ok (x ∷ [])
 
--- the same, where the path's first token is still among its tokens
-abbrev pub out_from_first : Ledger → List (List ℕ) → List ℕ → ℕ → Result (List Trade) Refusal
-out_from_first ledger [] fees x = Ok []
-out_from_first ledger (from ∷ tokens) fees x = trades_out ledger from tokens fees x
-
--- the same for an output
-abbrev pub in_from_first : Ledger → List (List ℕ) → List ℕ → ℕ → Result Plan Refusal
-in_from_first ledger [] fees y = Ok (record { input = y; trades = [] })
-in_from_first ledger (from ∷ tokens) fees y = plan_in ledger from tokens fees y
-
--- what an input leads to along a path: itself, and the trades
-unfoldable pub out_along : Ledger → RoutePath → ℕ → Result Plan Refusal
-out_along ledger path x = do
-  trades ← out_from_first ledger path.tokens path.fees x
-  Ok (record { input = x; trades = trades })
-
--- what an output asks for along a path, with a first amount within the limit
-unfoldable pub in_along : Ledger → RoutePath → ℕ → Result Plan Refusal
-in_along ledger path y = do
-  plan ← in_from_first ledger path.tokens path.fees y
-  _ ← refuse_if (nat_lt AMOUNT_LIMIT plan.input) code.AmountLimit
-  Ok plan
-
--- the first amount, and what each pool pays
-abbrev pub amounts_of : Plan → List ℕ
-amounts_of plan = plan.input ∷ map (λ trade. trade.output) plan.trades
-
--- the amounts that an input leads to along a path (library, getAmountsOut)
-unfoldable pub amounts_out : Ledger → RoutePath → ℕ → Result (List ℕ) Refusal
-amounts_out ledger path x = do
-  plan ← out_along ledger path x
-  Ok (amounts_of plan)
-
--- the amounts that an output asks for along a path (library, getAmountsIn)
-unfoldable pub amounts_in : Ledger → RoutePath → ℕ → Result (List ℕ) Refusal
-amounts_in ledger path y = do
-  plan ← in_along ledger path y
-  Ok (amounts_of plan)
-
--- ---- swaps along a path
-
--- the token that goes into the pool
-abbrev pub asset_in : Trade → Asset
-asset_in trade = if trade.zero_in then asset0 trade.pool else asset1 trade.pool
-
--- who gets what a pool pays: the pool of the next trade, and at the end the receiver
-abbrev pub receiver_of : List Trade → Holder → Holder
-receiver_of [] to = to
-receiver_of (next ∷ later) to = holder.Pool next.pool
-
--- one swap for each trade (router, _swap)
-unfoldable pub swap_along : Ledger → List Trade → Holder → Outcome (Unit {0})
-swap_along ledger [] to = done ledger
-swap_along ledger (trade ∷ later) to = do
-  swapped ← swap ledger trade.pool (if trade.zero_in then 0 else trade.output) (if trade.zero_in then trade.output else 0) (receiver_of later to)
-  swap_along swapped.ledger later to
-
--- the input of a plan from the actor to its first pool
-unfoldable pub pay_first : Ledger → (actor : List ℕ) → ℕ → List Trade → Outcome (Unit {0})
-pay_first ledger actor input [] = done ledger
-pay_first ledger actor input (first ∷ later) = transfer ledger (asset_in first) (holder.User actor) (holder.Pool first.pool) input
-
--- the input from the actor to the first pool, and then the swaps
-unfoldable pub trade_along : Ledger → (actor : List ℕ) → Plan → Holder → Outcome (List ℕ)
-trade_along ledger actor plan to = do
-  paid ← pay_first ledger actor plan.input plan.trades
-  swapped ← swap_along paid.ledger plan.trades to
-  Ok (record { ledger = swapped.ledger; answer = amounts_of plan })
+-- the first amount
+abbrev pub first_of : List ℕ → ℕ
+first_of [] = 0
+first_of (x ∷ amounts) = x
 
 -- the last amount
 abbrev pub last_of : List ℕ → ℕ
 last_of amounts = unwrap_or (slice_get amounts (length amounts - 1)) 0
 
+-- an output, and what each pool asks for the amount behind, from the last pool on
+unfoldable pub amounts_to : Ledger → List (List ℕ) → List ℕ → ℕ → Result (List ℕ) Refusal
+amounts_to ledger (from ∷ to ∷ tokens) (fee ∷ fees) y = do
+  amounts ← amounts_to ledger (to ∷ tokens) fees y
+  side ← side_of ledger from to fee
+  x ← asked_in fee (first_of amounts) side.rin side.rout
+  Ok (x ∷ amounts)
+amounts_to ledger tokens fees y = Ok (y ∷ [])
+
+-- the amounts that an input leads to along a path (library, getAmountsOut)
+abbrev pub amounts_out : Ledger → RoutePath → ℕ → Result (List ℕ) Refusal
+amounts_out ledger path x = amounts_from ledger path.tokens path.fees x
+
+-- the amounts that an output asks for along a path, with a first one within the limit (library,
+-- getAmountsIn)
+unfoldable pub amounts_in : Ledger → RoutePath → ℕ → Result (List ℕ) Refusal
+amounts_in ledger path y = do
+  amounts ← amounts_to ledger path.tokens path.fees y
+  _ ← refuse_if (nat_lt AMOUNT_LIMIT (first_of amounts)) code.AmountLimit
+  Ok amounts
+
+-- ---- swaps along a path
+
+-- who gets what the pool before these tokens pays: the pool of the first two, and at the end of the
+-- path the receiver
+unfoldable pub next_of : List (List ℕ) → List ℕ → Holder → Result Holder Refusal
+next_of (from ∷ to ∷ tokens) (fee ∷ fees) receiver = do
+  pool ← ok_or (pool_between from to fee) code.Identical
+  Ok (holder.Pool pool)
+next_of tokens fees receiver = Ok receiver
+
+-- each pool pays its amount to the next one, and the last to the receiver (router, _swap)
+unfoldable pub swap_along : Ledger → List (List ℕ) → List ℕ → (amounts : List ℕ) → Holder → Outcome (Unit {0})
+swap_along ledger (from ∷ to ∷ tokens) (fee ∷ fees) (y ∷ amounts) receiver = do
+  pool ← ok_or (pool_between from to fee) code.Identical
+  next ← next_of (to ∷ tokens) fees receiver
+  swapped ← swap ledger pool (if is_before from to then 0 else y) (if is_before from to then y else 0) next
+  swap_along swapped.ledger (to ∷ tokens) fees amounts receiver
+swap_along ledger tokens fees amounts receiver = done ledger
+
+-- the first amount goes from the actor to the first pool
+unfoldable pub pay_first : Ledger → (actor : List ℕ) → List (List ℕ) → List ℕ → ℕ → Outcome (Unit {0})
+pay_first ledger actor (from ∷ to ∷ tokens) (fee ∷ fees) x = do
+  pool ← ok_or (pool_between from to fee) code.Identical
+  transfer ledger (asset.Token from) (holder.User actor) (holder.Pool pool) x
+pay_first ledger actor tokens fees x = done ledger
+
+-- the first amount is paid, and then each pool pays what comes behind it
+unfoldable pub swap_amounts : Ledger → (actor : List ℕ) → RoutePath → (amounts : List ℕ) → Holder → Outcome (List ℕ)
+swap_amounts ledger actor path amounts to = do
+  paid ← pay_first ledger actor path.tokens path.fees (first_of amounts)
+  swapped ← swap_along paid.ledger path.tokens path.fees (drop 1 amounts) to
+  Ok (record { ledger = swapped.ledger; answer = amounts })
+
 -- an exact input, for at least a minimum (router, swapExactTokensForTokens)
 unfoldable pub exact_in : Ledger → (actor : List ℕ) → RoutePath → (x least : ℕ) → Holder → (deadline : ℕ) → Outcome (List ℕ)
 exact_in ledger actor path x least to deadline = do
   _ ← refuse_if (nat_lt deadline ledger.time) code.Expired
-  plan ← out_along ledger path x
-  _ ← refuse_if (nat_lt (last_of (amounts_of plan)) least) code.InsufficientOutputAmount
-  trade_along ledger actor plan to
+  amounts ← amounts_out ledger path x
+  _ ← refuse_if (nat_lt (last_of amounts) least) code.InsufficientOutputAmount
+  swap_amounts ledger actor path amounts to
 
 -- an exact output, for at most a maximum (router, swapTokensForExactTokens)
 unfoldable pub exact_out : Ledger → (actor : List ℕ) → RoutePath → (y most : ℕ) → Holder → (deadline : ℕ) → Outcome (List ℕ)
 exact_out ledger actor path y most to deadline = do
   _ ← refuse_if (nat_lt deadline ledger.time) code.Expired
-  plan ← in_along ledger path y
-  _ ← refuse_if (nat_lt most plan.input) code.ExcessiveInputAmount
-  trade_along ledger actor plan to
+  amounts ← amounts_in ledger path y
+  _ ← refuse_if (nat_lt most (first_of amounts)) code.ExcessiveInputAmount
+  swap_amounts ledger actor path amounts to
 
 -- ---- liquidity
 

@@ -8,71 +8,75 @@ use Rattle.amm_names.specs.declared.holder.Holder.TheVariants as holders
 use Rattle.amm_names.specs.declared.holder.Asset.TheVariants as assets
 use Rattle.amm_names.specs.Names.{is_token_name}
 use Rattle.amm_model.specs.Swap.{IsFee}
-use Rattle.amm_names.specs.Pools.{pool_between, pool_token0, pool_token1, is_before}
+use Rattle.amm_names.specs.Pools.{pool_between, pool_token0, pool_token1}
 use Rattle.amm_model.specs.declared.pair.AddReceipt.{AddReceipt}
 use Rattle.amm_model.specs.declared.pair.RemoveReceipt.{RemoveReceipt}
-use Rattle.amm_model.specs.declared.trade.Side.{Side}
 use Rattle.amm_model.specs.declared.trade.Trade.{Trade}
 use Rattle.amm_model.specs.declared.path.RoutePath.{RoutePath}
 use Rattle.amm_model.specs.declared.command.AddWant.{AddWant}
 use Rattle.amm_model.specs.declared.command.RemoveWant.{RemoveWant}
 use Rattle.amm_model.specs.declared.fault.Refusal.TheVariants as code
 use Rattle.amm_model.specs.Ledger.{Ledger, Outcome, Made, pair_of, transfer}
-use Rattle.amm_model.specs.Operations.{if_there, swap, mint, burn}
+use Rattle.amm_model.specs.Operations.{swap, mint, burn}
 use Rattle.amm_model.specs.Factory.{create}
-use Rattle.amm_model.specs.Router.{Plan, seen_from, side_of, out_along, in_along, amounts_of, asset_in, receiver_of, swap_along, pay_first, trade_along, last_of, exact_in, exact_out, with_pool, matched, add, paid_in_order, remove}
-use Rattle.amm_model.proofs.Guards.{given, not_refused, same_answer, was_some}
+use Rattle.amm_model.specs.Router.{side_of, last_of, exact_in, exact_out, with_pool, matched, add, paid_in_order, remove}
+use Rattle.amm_path.specs.Plan.{Plan, amounts_of, out_along, in_along, receiver_of, swap_trades, pay_plan, trade_along, exact_in_planned, exact_out_planned}
+use Rattle.amm_model.proofs.Guards.{given, not_refused, same_answer}
 use Rattle.amm_model.proofs.Names.{same_name_itself}
 use Rattle.amm_model.proofs.Laters.{Kept, kept_same, kept_then, transfer_kept}
 use Rattle.amm_pair.proofs.Lending.{swap_kept}
 use Rattle.amm_pair.proofs.Shares.{mint_kept}
 use Rattle.amm_pair.proofs.Burning.{burn_kept}
 use Rattle.amm_factory.proofs.Creation.{tokens_between, create_kept}
+use Rattle.amm_path.proofs.Plans.{side_seen, exact_in_is, exact_out_is}
 
 -- ---- swaps along a path
 
-swap_along_kept : (trades : List Trade) (ledger : Ledger) (to : Holder) (made : Made (Unit {0})) → swap_along ledger trades to ≡ Ok made → Kept ledger made.ledger
-unfolding swap_along
-swap_along_kept [] ledger to made is =
+swap_trades_kept : (trades : List Trade) (ledger : Ledger) (to : Holder) (made : Made (Unit {0})) → swap_trades ledger trades to ≡ Ok made → Kept ledger made.ledger
+unfolding swap_trades
+swap_trades_kept [] ledger to made is =
     subst (λ (m : Made (Unit {0})). Kept ledger m.ledger) (same_answer (record { ledger = ledger; answer = tt }) made is) (kept_same ledger)
-swap_along_kept (trade ∷ later) ledger to made is =
+swap_trades_kept (trade ∷ later) ledger to made is =
     let first = given (swap ledger trade.pool (if trade.zero_in then 0 else trade.output) (if trade.zero_in then trade.output else 0) (receiver_of later to)) _ made is in
     kept_then ledger first.value.ledger made.ledger
     (swap_kept ledger trade.pool (if trade.zero_in then 0 else trade.output) (if trade.zero_in then trade.output else 0) (receiver_of later to) first.value first.was)
-    (swap_along_kept later first.value.ledger to made first.after)
+    (swap_trades_kept later first.value.ledger to made first.after)
 
-pay_first_kept : (ledger : Ledger) (actor : List ℕ) (input : ℕ) (trades : List Trade) (made : Made (Unit {0})) → pay_first ledger actor input trades ≡ Ok made → Kept ledger made.ledger
-unfolding pay_first
-pay_first_kept ledger actor input [] made is =
+pay_plan_kept : (ledger : Ledger) (actor : List ℕ) (tokens : List (List ℕ)) (input : ℕ) (trades : List Trade) (made : Made (Unit {0})) → pay_plan ledger actor tokens input trades ≡ Ok made
+    → Kept ledger made.ledger
+unfolding pay_plan
+pay_plan_kept ledger actor [] input trades made is =
     subst (λ (m : Made (Unit {0})). Kept ledger m.ledger) (same_answer (record { ledger = ledger; answer = tt }) made is) (kept_same ledger)
-pay_first_kept ledger actor input (first ∷ later) made is = transfer_kept ledger (asset_in first) actor (holders.Pool first.pool) input made is
+pay_plan_kept ledger actor (from ∷ tokens) input [] made is =
+    subst (λ (m : Made (Unit {0})). Kept ledger m.ledger) (same_answer (record { ledger = ledger; answer = tt }) made is) (kept_same ledger)
+pay_plan_kept ledger actor (from ∷ tokens) input (first ∷ later) made is = transfer_kept ledger (assets.Token from) actor (holders.Pool first.pool) input made is
 
-trade_along_kept : (ledger : Ledger) (actor : List ℕ) (plan : Plan) (to : Holder) (made : Made (List ℕ)) → trade_along ledger actor plan to ≡ Ok made → Kept ledger made.ledger
+trade_along_kept : (ledger : Ledger) (actor : List ℕ) (path : RoutePath) (plan : Plan) (to : Holder) (made : Made (List ℕ)) → trade_along ledger actor path plan to ≡ Ok made → Kept ledger made.ledger
 unfolding trade_along
-trade_along_kept ledger actor plan to made is =
-    let paid = given (pay_first ledger actor plan.input plan.trades) _ made is in
-    let swapped = given (swap_along paid.value.ledger plan.trades to) _ made paid.after in
+trade_along_kept ledger actor path plan to made is =
+    let paid = given (pay_plan ledger actor path.tokens plan.input plan.trades) _ made is in
+    let swapped = given (swap_trades paid.value.ledger plan.trades to) _ made paid.after in
     let e = same_answer (record { ledger = swapped.value.ledger; answer = amounts_of plan }) made swapped.after in
     subst (λ (m : Made (List ℕ)). Kept ledger m.ledger) e
-    (kept_then ledger paid.value.ledger swapped.value.ledger (pay_first_kept ledger actor plan.input plan.trades paid.value paid.was) (swap_along_kept plan.trades paid.value.ledger to swapped.value swapped.was))
+    (kept_then ledger paid.value.ledger swapped.value.ledger (pay_plan_kept ledger actor path.tokens plan.input plan.trades paid.value paid.was) (swap_trades_kept plan.trades paid.value.ledger to swapped.value swapped.was))
 
 pub exact_in_kept : (ledger : Ledger) (actor : List ℕ) (path : RoutePath) (x least : ℕ) (to : Holder) (deadline : ℕ) (made : Made (List ℕ)) → exact_in ledger actor path x least to deadline ≡ Ok made
     → Kept ledger made.ledger
-unfolding exact_in
+unfolding exact_in_planned
 exact_in_kept ledger actor path x least to deadline made is =
-    let timely = not_refused (nat_lt deadline ledger.time) code.Expired _ made is in
+    let timely = not_refused (nat_lt deadline ledger.time) code.Expired _ made (sym (exact_in_is ledger actor path to x least deadline) ∙ is) in
     let plan = given (out_along ledger path x) _ made timely.1 in
     let enough = not_refused (nat_lt (last_of (amounts_of plan.value)) least) code.InsufficientOutputAmount _ made plan.after in
-    trade_along_kept ledger actor plan.value to made enough.1
+    trade_along_kept ledger actor path plan.value to made enough.1
 
 pub exact_out_kept : (ledger : Ledger) (actor : List ℕ) (path : RoutePath) (y most : ℕ) (to : Holder) (deadline : ℕ) (made : Made (List ℕ)) → exact_out ledger actor path y most to deadline ≡ Ok made
     → Kept ledger made.ledger
-unfolding exact_out
+unfolding exact_out_planned
 exact_out_kept ledger actor path y most to deadline made is =
-    let timely = not_refused (nat_lt deadline ledger.time) code.Expired _ made is in
+    let timely = not_refused (nat_lt deadline ledger.time) code.Expired _ made (sym (exact_out_is ledger actor path to y most deadline) ∙ is) in
     let plan = given (in_along ledger path y) _ made timely.1 in
     let enough = not_refused (nat_lt most plan.value.input) code.ExcessiveInputAmount _ made plan.after in
-    trade_along_kept ledger actor plan.value to made enough.1
+    trade_along_kept ledger actor path plan.value to made enough.1
 
 -- ---- liquidity
 
@@ -110,14 +114,6 @@ add_kept ledger actor want to deadline made fits is =
     (kept_then first.value.ledger second.value.ledger minted.value.ledger (transfer_kept first.value.ledger (assets.Token want.b) actor (holders.Pool side.value.pool) amounts.value.b second.value second.was)
     (mint_kept second.value.ledger side.value.pool to minted.value minted.was))))
 
-side_named : (ledger : Ledger) (a b : List ℕ) (fee : ℕ) (side : Side) → side_of ledger a b fee ≡ Ok side → pool_between a b fee ≡ Some side.pool
-unfolding side_of
-side_named ledger a b fee side is =
-    let named = given (ok_or (pool_between a b fee) code.Identical) _ side is in
-    let pair = given (if_there (pair_of ledger.pairs named.value)) _ side named.after in
-    let e = same_answer (seen_from named.value (is_before a b) pair.value) side pair.after in
-    was_some (pool_between a b fee) code.Identical named.value named.was ∙ ap (λ (s : Side). Some s.pool) e
-
 not_with_itself : (a : List ℕ) (fee : ℕ) (pool : List ℕ) → pool_between a a fee ≡ Some pool → ⊥
 unfolding pool_between
 not_with_itself a fee pool is = let same : bytes_eq a a ≡ true = same_name_itself a in cc
@@ -140,7 +136,7 @@ remove_kept ledger actor want to deadline made fits is =
     let enough_a = not_refused (nat_lt paid.a want.a_min) code.InsufficientAAmount _ made burnt.after in
     let enough_b = not_refused (nat_lt paid.b want.b_min) code.InsufficientBAmount _ made enough_a.1 in
     let e = same_answer (record { ledger = burnt.value.ledger; answer = paid }) made enough_b.1 in
-    let apart = sides_apart want.a want.b want.fee side.value.pool fits (side_named ledger want.a want.b want.fee side.value side.was) in
+    let apart = sides_apart want.a want.b want.fee side.value.pool fits (side_seen ledger want.a want.b want.fee side.value side.was).0 in
     subst (λ (m : Made RemoveReceipt). Kept ledger m.ledger) e
     (kept_then ledger sent.value.ledger burnt.value.ledger (transfer_kept ledger (assets.Share side.value.pool) actor (holders.Pool side.value.pool) want.shares sent.value sent.was)
     (burn_kept sent.value.ledger side.value.pool to burnt.value burnt.was apart))

@@ -3,6 +3,7 @@ ghost use Rattle.std.specs.Prelude.{◌≡◌, ◌≤◌, OnOk};
 ghost use Rattle.amm_model.specs.Fits.{IsPath};
 ghost use Rattle.amm_model.specs.declared.limits.TheConstants.{AMOUNT_LIMIT};
 ghost use Rattle.amm_model.specs.Router.{last_of, exact_in};
+ghost use Rattle.amm_path.specs.Plan.{exact_in_planned};
 ghost use Rattle.amm_model.specs.Sound.{IsSound};
 ghost use Rattle.amm_state.specs.Tx.{Meets};
 
@@ -18,7 +19,6 @@ use std::alloc::Global;
 ///
 /// Refused, in this order: EXPIRED; the refusals of `amounts_out`; INSUFFICIENT_OUTPUT_AMOUNT;
 /// FUNDS; those of the swap with each pool.
-#[tactic(auto, unfolding(amm_model::specs::Router::exact_in))]
 pub fn swap_exact_in(
     alloc: Global,
     tx: &mut Tx,
@@ -36,6 +36,28 @@ pub fn swap_exact_in(
     ensures meets { Meets tx.old tx.new result (exact_in tx.old.present actor.now path.now x min to.now deadline) }
     ensures sound { OnOk result (IsSound tx.new.present) }
 {
+    swap_exact_in_planned(alloc, tx, actor, path, x, min, to, deadline)
+}
+
+// The same by a plan; apart so that the check sees the plan here alone.
+#[tactic(auto, unfolding(crate::specs::Plan::exact_in_planned))]
+fn swap_exact_in_planned(
+    alloc: Global,
+    tx: &mut Tx,
+    actor: &UserName,
+    path: &RoutePath,
+    x: u64,
+    min: u64,
+    to: &Holder,
+    deadline: u64,
+) -> Result<AmountList, Fault>
+    requires clean { tx.old.mark ≡ Mark.Clean }
+    requires sound { IsSound tx.old.present }
+    requires path { IsPath path.now }
+    requires amount { x ≤ AMOUNT_LIMIT }
+    ensures meets { Meets tx.old tx.new result (exact_in_planned tx.old.present actor.now path.now x min to.now deadline) }
+    ensures sound { OnOk result (IsSound tx.new.present) }
+{
     if deadline < tx.book().time() {
         return Err(tx.refuse(Refusal::Expired));
     }
@@ -50,7 +72,7 @@ pub fn swap_exact_in(
     if last_of(&amounts) < min {
         return Err(tx.refuse(Refusal::InsufficientOutputAmount));
     }
-    trade_along(alloc, tx, actor, &plan, amounts, to)
+    trade_along(alloc, tx, actor, path, &plan, amounts, to)
 }
 
 // The last of the amounts, 0 where there is none.

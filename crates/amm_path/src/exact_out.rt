@@ -3,6 +3,7 @@ ghost use Rattle.std.specs.Prelude.{◌≡◌, ◌≤◌, OnOk};
 ghost use Rattle.amm_model.specs.Fits.{IsPath};
 ghost use Rattle.amm_model.specs.declared.limits.TheConstants.{AMOUNT_LIMIT};
 ghost use Rattle.amm_model.specs.Router.{exact_out};
+ghost use Rattle.amm_path.specs.Plan.{exact_out_planned};
 ghost use Rattle.amm_model.specs.Sound.{IsSound};
 ghost use Rattle.amm_state.specs.Tx.{Meets};
 
@@ -18,7 +19,6 @@ use std::alloc::Global;
 ///
 /// Refused, in this order: EXPIRED; the refusals of `amounts_in`; EXCESSIVE_INPUT_AMOUNT; FUNDS;
 /// those of the swap with each pool.
-#[tactic(auto, unfolding(amm_model::specs::Router::exact_out))]
 pub fn swap_exact_out(
     alloc: Global,
     tx: &mut Tx,
@@ -36,6 +36,28 @@ pub fn swap_exact_out(
     ensures meets { Meets tx.old tx.new result (exact_out tx.old.present actor.now path.now y max to.now deadline) }
     ensures sound { OnOk result (IsSound tx.new.present) }
 {
+    swap_exact_out_planned(alloc, tx, actor, path, y, max, to, deadline)
+}
+
+// The same by a plan; apart so that the check sees the plan here alone.
+#[tactic(auto, unfolding(crate::specs::Plan::exact_out_planned))]
+fn swap_exact_out_planned(
+    alloc: Global,
+    tx: &mut Tx,
+    actor: &UserName,
+    path: &RoutePath,
+    y: u64,
+    max: u64,
+    to: &Holder,
+    deadline: u64,
+) -> Result<AmountList, Fault>
+    requires clean { tx.old.mark ≡ Mark.Clean }
+    requires sound { IsSound tx.old.present }
+    requires path { IsPath path.now }
+    requires amount { y ≤ AMOUNT_LIMIT }
+    ensures meets { Meets tx.old tx.new result (exact_out_planned tx.old.present actor.now path.now y max to.now deadline) }
+    ensures sound { OnOk result (IsSound tx.new.present) }
+{
     if deadline < tx.book().time() {
         return Err(tx.refuse(Refusal::Expired));
     }
@@ -50,5 +72,5 @@ pub fn swap_exact_out(
         Ok(amounts) => amounts,
         Err(_) => return Err(tx.lack()),
     };
-    trade_along(alloc, tx, actor, &plan, amounts, to)
+    trade_along(alloc, tx, actor, path, &plan, amounts, to)
 }

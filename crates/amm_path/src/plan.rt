@@ -5,7 +5,7 @@ ghost use Rattle.amm_model.specs.Swap.{IsFee};
 ghost use Rattle.amm_model.specs.Outcome.{Gives};
 ghost use Rattle.amm_model.specs.Fits.{IsPath};
 ghost use Rattle.amm_model.specs.declared.limits.TheConstants.{AMOUNT_LIMIT, RESERVE_LIMIT};
-ghost use Rattle.amm_model.specs.Router.{trade_out, trades_out, trade_in, plan_in, out_from_first, out_along, in_from_first, in_along, amounts_of};
+ghost use Rattle.amm_path.specs.Plan.{trade_out, trades_out, trade_in, plan_in, out_from_first, out_along, in_from_first, in_along, amounts_of};
 ghost use Rattle.amm_model.specs.Sound.{IsSound};
 
 use crate::sides::side_of;
@@ -23,7 +23,7 @@ pub(crate) struct Plan {
 }
 
 /// The plan that an input of `x` leads to.
-#[tactic(auto, unfolding(amm_model::specs::Router::out_along))]
+#[tactic(auto, unfolding(crate::specs::Plan::out_along))]
 pub(crate) fn out_along(alloc: Global, book: &Book, path: &RoutePath, x: u64) -> Result<Plan, Fault>
     requires sound { IsSound book.now.ledger }
     requires path { IsPath path.now }
@@ -54,7 +54,7 @@ fn out_from_first(
 }
 
 /// The plan that an output of `y` asks for. AMOUNT_LIMIT where its input is above 2^52-1.
-#[tactic(auto, unfolding(amm_model::specs::Router::in_along))]
+#[tactic(auto, unfolding(crate::specs::Plan::in_along))]
 pub(crate) fn in_along(alloc: Global, book: &Book, path: &RoutePath, y: u64) -> Result<Plan, Fault>
     requires sound { IsSound book.now.ledger }
     requires path { IsPath path.now }
@@ -102,7 +102,7 @@ pub(crate) fn amounts_of(alloc: Global, plan: &Plan) -> Result<AmountList, Memor
 }
 
 // The trade that an input makes with the pool of two tokens.
-#[tactic(auto, unfolding(amm_model::specs::Router::trade_out))]
+#[tactic(auto, unfolding(crate::specs::Plan::trade_out, amm_model::specs::Router::paid_out))]
 fn trade_out(
     alloc: Global,
     book: &Book,
@@ -132,7 +132,7 @@ fn trade_out(
 }
 
 // The trades that an input leads to, the last one first.
-#[tactic(auto, unfolding(amm_model::specs::Router::trades_out))]
+#[tactic(auto, unfolding(crate::specs::Plan::trades_out))]
 fn trades_out(
     alloc: Global,
     book: &Book,
@@ -166,7 +166,7 @@ struct Asked {
 }
 
 // What the pool of two tokens asks for an output, and the trade.
-#[tactic(auto, unfolding(amm_model::specs::Router::trade_in))]
+#[tactic(auto, unfolding(crate::specs::Plan::trade_in, amm_model::specs::Router::asked_in))]
 fn trade_in(
     alloc: Global,
     book: &Book,
@@ -200,7 +200,7 @@ fn trade_in(
 }
 
 // What an output asks for, pool by pool from the last.
-#[tactic(auto, unfolding(amm_model::specs::Router::plan_in))]
+#[tactic(auto, unfolding(crate::specs::Plan::plan_in))]
 fn asked_in(
     alloc: Global,
     book: &Book,

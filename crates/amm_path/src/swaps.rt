@@ -1,22 +1,23 @@
 //! The payment of a plan's input, and its swaps.
 ghost use Rattle.std.specs.Prelude.{◌≡◌, OnOk};
-ghost use Rattle.amm_model.specs.Router.{amounts_of, asset_in, receiver_of, swap_along, pay_first, trade_along};
+ghost use Rattle.amm_path.specs.Plan.{amounts_of, receiver_of, swap_trades, pay_plan, trade_along};
 ghost use Rattle.amm_model.specs.Sound.{IsSound};
 ghost use Rattle.amm_state.specs.Tx.{Meets};
 
 use crate::payments::send;
 use crate::plan::Plan;
-use amm_model::{AmountList, Asset, Fault, Holder, Trade, UserName};
+use amm_model::{AmountList, Asset, Fault, Holder, RoutePath, TokenName, Trade, UserName};
 use amm_pair::swap;
 use amm_state::{Mark, Tx};
 use std::alloc::Global;
 
 /// Pays the input of a plan to its first pool, swaps with each, and gives the amounts.
-#[tactic(auto, unfolding(amm_model::specs::Router::trade_along))]
+#[tactic(auto, unfolding(crate::specs::Plan::trade_along))]
 pub(crate) fn trade_along(
     alloc: Global,
     tx: &mut Tx,
     actor: &UserName,
+    path: &RoutePath,
     plan: &Plan,
     amounts: AmountList,
     to: &Holder,
@@ -24,50 +25,51 @@ pub(crate) fn trade_along(
     requires clean { tx.old.mark ≡ Mark.Clean }
     requires sound { IsSound tx.old.present }
     requires amounts { amounts ≡ amounts_of (record { input = plan.now.input; trades = plan.now.trades.items }) }
-    ensures meets { Meets tx.old tx.new result (trade_along tx.old.present actor.now (record { input = plan.now.input; trades = plan.now.trades.items }) to.now) }
+    ensures meets { Meets tx.old tx.new result (trade_along tx.old.present actor.now path.now (record { input = plan.now.input; trades = plan.now.trades.items }) to.now) }
     ensures sound { OnOk result (IsSound tx.new.present) }
 {
-    pay_first(alloc, tx, actor, plan.input, &plan.trades)?;
+    pay_first(
+        alloc,
+        tx,
+        actor,
+        path.tokens.as_slice(),
+        plan.input,
+        &plan.trades,
+    )?;
     swap_along(alloc, tx, &plan.trades, to)?;
     Ok(amounts)
 }
 
-#[tactic(auto, unfolding(amm_model::specs::Router::pay_first))]
+// Pays the input from the actor to the first pool.
+#[tactic(auto, unfolding(crate::specs::Plan::pay_plan))]
 fn pay_first(
     alloc: Global,
     tx: &mut Tx,
     actor: &UserName,
+    tokens: &[TokenName],
     input: u64,
     trades: &[Trade],
 ) -> Result<(), Fault>
     requires clean { tx.old.mark ≡ Mark.Clean }
     requires sound { IsSound tx.old.present }
-    ensures meets { Meets tx.old tx.new result (pay_first tx.old.present actor.now input trades.now) }
+    ensures meets { Meets tx.old tx.new result (pay_plan tx.old.present actor.now tokens.now input trades.now) }
     ensures sound { OnOk result (IsSound tx.new.present) }
 {
-    match trades.split_first() {
-        Some((first, _)) => send(alloc, tx, &asset_in(first), actor, &first.pool, input),
-        None => Ok(()),
-    }
-}
-
-// The token that goes into the pool.
-fn asset_in(trade: &Trade) -> Asset
-    ensures { result ≡ asset_in trade.now }
-{
-    if trade.zero_in {
-        Asset::Token(*trade.pool.token0())
-    } else {
-        Asset::Token(*trade.pool.token1())
-    }
+    let Some((from, _)) = tokens.split_first() else {
+        return Ok(());
+    };
+    let Some((first, _)) = trades.split_first() else {
+        return Ok(());
+    };
+    send(alloc, tx, &Asset::Token(*from), actor, &first.pool, input)
 }
 
 // Swaps with each pool, which pays to the next one, and at the end to the receiver.
-#[tactic(auto, unfolding(amm_model::specs::Router::swap_along))]
+#[tactic(auto, unfolding(crate::specs::Plan::swap_trades))]
 fn swap_along(alloc: Global, tx: &mut Tx, trades: &[Trade], to: &Holder) -> Result<(), Fault>
     requires clean { tx.old.mark ≡ Mark.Clean }
     requires sound { IsSound tx.old.present }
-    ensures meets { Meets tx.old tx.new result (swap_along tx.old.present trades.now to.now) }
+    ensures meets { Meets tx.old tx.new result (swap_trades tx.old.present trades.now to.now) }
     ensures sound { OnOk result (IsSound tx.new.present) }
 {
     let Some((trade, later)) = trades.split_first() else {
