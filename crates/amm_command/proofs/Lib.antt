@@ -9,9 +9,4 @@ pub mod Words
 pub mod Lists
 pub mod LoanLemmas
 pub mod Lines
-pub mod WrittenBack
-pub mod Ascii
-pub mod Apart
-pub mod ValuesBack
-pub mod RowsBack
 pub mod Paths

@@ -5,5 +5,3 @@ pub mod Kinds
 pub mod Front
 pub mod Taken
 pub mod Loans
-pub mod WellSpelled
-pub mod Writable

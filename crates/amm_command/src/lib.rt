@@ -15,7 +15,5 @@ mod step;
 mod step_row;
 #[cfg(test)]
 mod tests;
-mod written;
 
 pub use line::{LineReader, read_line};
-pub use written::rows_read_back;

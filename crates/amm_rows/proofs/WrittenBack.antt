@@ -21,7 +21,7 @@ use Rattle.amm_model.specs.CommandView.{CommandView}
 use Rattle.amm_model.specs.Reading.{row_of, command_of, command_of_line}
 use Rattle.amm_command.specs.Spelled.{IsPlain, ItemsArePlain, ArePlain, inner_depth}
 use Rattle.amm_command.specs.Rows.{command_kind, command_values, row_value}
-use Rattle.amm_command.specs.WellSpelled.{HasUtf8, ItemsHaveUtf8}
+use Rattle.amm_rows.specs.WellSpelled.{HasUtf8, ItemsHaveUtf8}
 use Rattle.amm_command.proofs.Lists.{elements-items_of, items_plain}
 use Rattle.amm_command.proofs.Readings.{of_json-outline, depth-outline}
 

@@ -10,7 +10,7 @@ use Rattle.serde_json.specs.View.{items_of}
 use Rattle.serde_json.specs.Written.{compact_text}
 use Rattle.std.specs.Str.{IsUtf8}
 use Rattle.amm_names.specs.Names.{is_user_name}
-use Rattle.amm_command.proofs.Ascii.{IsUtf8-user, IsUtf8-token}
+use Rattle.amm_rows.proofs.Ascii.{IsUtf8-user, IsUtf8-token}
 use Rattle.amm_model.specs.Outcome.{◌>>=◌}
 use Rattle.amm_model.specs.Json.{each, list}
 use Rattle.amm_model.specs.CommandView as view
@@ -19,12 +19,12 @@ use Rattle.amm_model.specs.Reading.{as_step, as_steps, step_row, move_row, row_o
 use Rattle.amm_model.specs.declared.limits.TheConstants.{STEP_LIMIT}
 use Rattle.amm_command.specs.Spelled.{ArePlain, inner_depth}
 use Rattle.amm_command.specs.Rows.{move_kind, move_values, step_value, steps_values, command_kind, command_values, row_value}
-use Rattle.amm_command.specs.WellSpelled.{HasUtf8, ItemsHaveUtf8}
-use Rattle.amm_command.specs.Writable.{IsStepRow, AreStepRows, IsRow}
+use Rattle.amm_rows.specs.WellSpelled.{HasUtf8, ItemsHaveUtf8}
+use Rattle.amm_rows.specs.Writable.{IsStepRow, AreStepRows, IsRow}
 use Rattle.amm_command.proofs.Lists.{elements-items_of, items_plain}
-use Rattle.amm_command.proofs.Apart.{asset_reads, holder_reads}
-use Rattle.amm_command.proofs.ValuesBack.{user_reads, token_reads, pool_reads, pool_utf8, asset_utf8, holder_utf8, amount_reads, amount_plain, fee_back, path_back}
-use Rattle.amm_command.proofs.WrittenBack.{written_back}
+use Rattle.amm_rows.proofs.Apart.{asset_reads, holder_reads}
+use Rattle.amm_rows.proofs.ValuesBack.{user_reads, token_reads, pool_reads, pool_utf8, asset_utf8, holder_utf8, amount_reads, amount_plain, fee_back, path_back}
+use Rattle.amm_rows.proofs.WrittenBack.{written_back}
 
 -- a step is read from its values, where so many loans may be open
 record StepBack (loans : ℕ) (actor : List ℕ) (m : Move) : Type 0 where

@@ -16,15 +16,15 @@ use Rattle.amm_names.specs.declared.holder.Asset.{Asset}
 use Rattle.amm_names.specs.declared.holder.Asset.TheVariants as assets
 use Rattle.amm_names.specs.declared.holder.Holder.{Holder}
 use Rattle.amm_names.specs.declared.holder.Holder.TheVariants as holders
-use Rattle.amm_command.proofs.Ascii.{IsUtf8-user, IsUtf8-token, IsUtf8-spelling}
+use Rattle.amm_rows.proofs.Ascii.{IsUtf8-user, IsUtf8-token, IsUtf8-spelling}
 use Rattle.amm_model.specs.declared.path.RoutePath.{RoutePath}
 use Rattle.amm_model.specs.Json.{elements, whole}
 use Rattle.amm_model.specs.Forms.{as_user, as_token, as_pool, as_amount, as_fee, as_path, fee_behind, path_along}
 use Rattle.amm_model.specs.declared.limits.TheConstants.{AMOUNT_LIMIT}
 use Rattle.amm_command.specs.Spelled.{IsPlain, ArePlain, inner_depth}
 use Rattle.amm_command.specs.Rows.{asset_text, holder_text, fee_values, hop_value, hop_values, tokens_behind, path_value}
-use Rattle.amm_command.specs.WellSpelled.{HasUtf8, ItemsHaveUtf8}
-use Rattle.amm_command.specs.Writable.{NamesHolder, NamesAsset, HasRoom, IsPathRow}
+use Rattle.amm_rows.specs.WellSpelled.{HasUtf8, ItemsHaveUtf8}
+use Rattle.amm_rows.specs.Writable.{NamesHolder, NamesAsset, HasRoom, IsPathRow}
 use Rattle.amm_command.proofs.Lists.{elements-items_of, items_plain}
 use Rattle.amm_command.proofs.Paths.{AreTokens, AreFees, path_so, path_read, hops_plain, hops_flat, small_fee}
 

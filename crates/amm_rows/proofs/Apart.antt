@@ -18,7 +18,7 @@ use Rattle.amm_names.specs.declared.holder.Holder.{Holder}
 use Rattle.amm_names.specs.declared.holder.Holder.TheVariants as holders
 use Rattle.amm_model.specs.Forms.{as_asset, as_holder}
 use Rattle.amm_command.specs.Rows.{asset_text, holder_text}
-use Rattle.amm_command.specs.Writable.{NamesHolder, NamesAsset}
+use Rattle.amm_rows.specs.Writable.{NamesHolder, NamesAsset}
 
 -- the names of tokens and of pools begin with a capital letter
 record StartsUpper (name : List ℕ) : Type 0 where

@@ -1,0 +1,5 @@
+mod Ascii
+mod Apart
+mod ValuesBack
+mod WrittenBack
+mod RowsBack
