@@ -1,5 +1,6 @@
 //! Bytes of a name, kept in place, compared and hashed as a list.
-ghost use Rattle.std.specs.Prelude.{◌≡◌, ◌<◌, ◌≤◌, ◌+◌, [], ◌++◌, length};
+ghost use Rattle.std.specs.Prelude.{◌≡◌, ◌<◌, ◌≤◌, ◌+◌, [], ◌++◌, length, nat_eq};
+ghost use Rattle.std.specs.Cmp.Lexicographic.{pointwise};
 ghost use borrow.Rule.Slice.PartMut.{put_mid};
 
 use std::cmp::Ordering;
@@ -34,6 +35,20 @@ fn write_at(field: &mut [u8], start: usize, bytes: &[u8])
     ensures { field.new ≡ put_mid start (length bytes.now) field.old bytes.now }
 {
     field[start..start + bytes.len()].copy_from_slice(bytes);
+}
+
+/// Whether two fields hold the same. Each byte is looked at, in one stride of wide words: to stop
+/// at the first that differs would take longer.
+#[inline(always)]
+#[tactic(auto, using(crate::proofs::Same::pointwise_step))]
+fn are_same<const N: usize>(a: &[u8; N], b: &[u8; N]) -> bool
+    ensures { result ≡ pointwise nat_eq a.now b.now }
+{
+    let mut differ = false;
+    for i in 0..N {
+        differ |= a[i] != b[i];
+    }
+    !differ
 }
 
 impl<const N: usize> Text<N> {
@@ -103,7 +118,7 @@ impl<const N: usize> PartialEq for Text<N> {
     ghost laws = { partial_equiv_from_equiv nat_list_eq_equiv };
 
     fn eq(&self, other: &Text<N>) -> bool {
-        self.len == other.len && self.bytes == other.bytes
+        self.len == other.len && are_same(&self.bytes, &other.bytes)
     }
 }
 
