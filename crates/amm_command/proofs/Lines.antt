@@ -1,5 +1,6 @@
 -- A line that is plainly spelled reads as its command.
-use Rattle.std.proofs.Common.{◌≡◌, ℕ, ◌≤◌, List, [], ◌∷◌, ◌++◌, Some, Ok, refl, sym, ap, ap₂, ◌∙◌, append-nil, arith, true}
+use Rattle.std.proofs.Common.{◌≡◌, ℕ, ◌≤◌, List, [], ◌∷◌, ◌++◌, Option, None, Some, Ok, refl, sym, ap, ap₂, ◌∙◌, append-nil, arith, true}
+use Rattle.std.specs.Prelude.{IfSome}
 use Rattle.std.specs.Str.{IsUtf8, is_utf8}
 use Rattle.std.proofs.lemmas.Str.{is_utf8-from_IsUtf8}
 use Rattle.json.specs.Lex as lexemes
@@ -37,6 +38,14 @@ line_read bytes word kind a b z c utf8 opened first word_is taken end =
     let is : lexed bytes ≡ spelled (list (string k ∷ ds)) =
     opened ∙ ap (λ s. lexemes.token tokens.begin_array ∷ s) (first word_plain ∙ ap₂ (λ w s. lexemes.token (tokens.string w) ∷ s) word_is (taken.text ∙ ap (λ s. rest_spelled ds ++ s) end ∙ append-nil (rest_spelled ds))) in
     rw (value_read bytes k ds utf8 is taken.plain taken.flat) (ap (λ es. row_of k es) (elements-items_of ds) ∙ taken.fits)
+
+-- the same of a command that may have been found
+pub line_read_if :
+    {C : Type 0} (view : C → CommandView) (found : Option C) (bytes word : List ℕ) (kind : Kind) (a b z : List Lexeme) → IsUtf8 bytes → lexed bytes ≡ lexemes.token tokens.begin_array ∷ a →
+    (escape word ≡ word → a ≡ lexemes.token (tokens.string word) ∷ b) → word ≡ kind_word kind → IfSome found (λ c. CommandTaken (kind_word kind) (row_of (kind_word kind)) b z (view c)) → z ≡ [] →
+    IfSome found (λ c. command_of_line bytes ≡ Ok (view c))
+line_read_if view None bytes word kind a b z utf8 opened first word_is taken end = tt
+line_read_if view (Some c) bytes word kind a b z utf8 opened first word_is taken end = line_read bytes word kind a b z (view c) utf8 opened first word_is taken end
 
 pub json_value-some : (bytes : List ℕ) (d : Data) → IsUtf8 bytes → read bytes ≡ Some d → json_value bytes ≡ Some d
 unfolding json_value

@@ -16,4 +16,4 @@ mod step_row;
 #[cfg(test)]
 mod tests;
 
-pub use line::{LineReader, read_line};
+pub use line::read_line;

@@ -10,26 +10,9 @@ ghost use Rattle.serde_json.specs.View.{view};
 use crate::form::{MISFIT, list, text, user};
 use crate::step::{fits, move_row};
 use crate::{plain, row};
-use amm_model::{Command, Fault, Memory, Refusal};
+use amm_model::{Command, Fault, Refusal};
 use serde_json::Value;
 use std::alloc::Global;
-
-/// Reads lines one after another. It keeps nothing from one to the next.
-#[derive(Drop)]
-pub struct LineReader {}
-
-impl LineReader {
-    pub fn new(alloc: Global) -> Result<LineReader, Memory> {
-        Ok(LineReader {})
-    }
-
-    /// The command that the bytes of a line are, as `read_line` reads it.
-    pub fn read(&mut self, alloc: Global, bytes: &[u8]) -> Result<Command, Fault>
-        ensures { Gives view_of result (command_of_line bytes.now) }
-    {
-        read_line(alloc, bytes)
-    }
-}
 
 /// The command that the bytes of a line are. `BadJson` exactly where they are no JSON, and
 /// `BadCommand` exactly where they are JSON that fits no row of the table of commands.

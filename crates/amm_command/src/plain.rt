@@ -35,9 +35,10 @@ pub fn command(alloc: Global, bytes: &[u8]) -> Option<Command>
     }
     let word = line.text()?;
     let kind = Kind::of(word)?;
-    let command = row_of(alloc, &mut line, kind)?;
+    // It is handed on as it is, since a command is large.
+    let found = row_of(alloc, &mut line, kind);
     if line.is_at_end() && bytes.is_ascii() {
-        Some(command)
+        found
     } else {
         None
     }

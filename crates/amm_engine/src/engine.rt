@@ -8,15 +8,13 @@ ghost use Rattle.amm_model.specs.declared.limits.TheConstants.{INPUT_LIMIT};
 ghost use Rattle.amm_model.specs.Ledger.{opening_ledger};
 ghost use Rattle.amm_model.specs.Sound.{IsAtRest};
 ghost use Rattle.amm_model.specs.CommandView.{view_of};
-ghost use Rattle.amm_model.specs.Outcome.{Gives};
-ghost use Rattle.amm_model.specs.Reading.{command_of_line};
 ghost use Rattle.amm_model.specs.Fits.{Fits};
 ghost use Rattle.amm_engine.specs.Commands.{AnswersCommand};
 ghost use Rattle.amm_engine.specs.Service.{AnswersLine, ServesAll, ServesEnded, ServesToLimit, BreaksOff, LacksMemory};
 
 use crate::Status;
 use crate::line::{run, write_reply};
-use amm_command::LineReader;
+use amm_command::read_line;
 use amm_io::{IoEnd, Lines, Sink, Source, WriteEnd, write_all};
 use amm_model::limits::INPUT_LIMIT;
 use amm_model::{Answer, Command, Fault, Line, Memory, Refusal};
@@ -29,7 +27,6 @@ use std::marker::Model;
 pub struct Engine {
     // It is away only while a line is answered.
     state: Option<State>,
-    reader: LineReader,
 }
 
 impl Model for Engine {
@@ -61,7 +58,6 @@ impl Engine {
     {
         Ok(Engine {
             state: Some(State::with_seed(alloc, seed)?),
-            reader: LineReader::new(alloc)?,
         })
     }
 
@@ -106,14 +102,6 @@ impl Engine {
         }
     }
 
-    /// The command that the bytes of a line are.
-    fn read(&mut self, alloc: Global, bytes: &[u8]) -> Result<Command, Fault>
-        ensures gives { Gives view_of result (command_of_line bytes.now) }
-        ensures same { self.new ≡ self.old }
-    {
-        self.reader.read(alloc, bytes)
-    }
-
     /// Answers the bytes of a line.
     fn answer_whole(
         &mut self,
@@ -125,7 +113,7 @@ impl Engine {
         ensures ok { OnOk result (AnswersLine self.old number (Whole bytes.now) text.new.items self.new) }
         ensures err { OnErr result (self.new ≡ self.old) }
     {
-        match self.read(alloc, bytes) {
+        match read_line(alloc, bytes) {
             Ok(command) => self.answer_command(alloc, number, &command, text),
             Err(Fault::Refused(why)) => write_reply(text, number, &Answer::Refused(why)),
             Err(Fault::Memory) => Err(Memory),

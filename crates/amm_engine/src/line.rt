@@ -1,5 +1,5 @@
 //! A command within one transaction, and the text of its reply.
-ghost use Rattle.std.specs.Prelude.{◌≡◌, Ok, true, false, OnOk, OnErr};
+ghost use Rattle.std.specs.Prelude.{◌≡◌, Ok, OnOk, OnErr};
 ghost use Rattle.amm_state.specs.declared.mark.Mark.{Mark};
 ghost use Rattle.amm_model.specs.Sound.{IsAtRest};
 ghost use Rattle.amm_model.specs.CommandView.{view_of};
@@ -12,6 +12,13 @@ use amm_model::{Answer, Command, Fault, Memory};
 use amm_reply::append_answer;
 use amm_state::{State, Tx};
 use std::alloc::Global;
+
+/// How a command that was tried has ended.
+#[derive(Drop)]
+enum Trial {
+    Accepted,
+    Declined,
+}
 
 /// Makes the text that of the reply.
 pub(crate) fn write_reply(text: &mut Vec<u8>, number: u64, answer: &Answer) -> Result<(), Memory>
@@ -37,35 +44,35 @@ pub(crate) fn run(
 {
     let mut tx = Tx::begin(state);
     match try_command(alloc, &mut tx, number, command, text) {
-        Ok(true) => (tx.commit(), Ok(())),
-        Ok(false) => (tx.rollback(), Ok(())),
+        Ok(Trial::Accepted) => (tx.commit(), Ok(())),
+        Ok(Trial::Declined) => (tx.rollback(), Ok(())),
         Err(Memory) => (tx.rollback(), Err(Memory)),
     }
 }
 
-/// Tries a command and writes what it gives, or why it is refused. Says whether it was accepted.
+/// Tries a command and writes what it gives, or why it is refused.
 fn try_command(
     alloc: Global,
     tx: &mut Tx,
     number: u64,
     command: &Command,
     text: &mut Vec<u8>,
-) -> Result<bool, Memory>
+) -> Result<Trial, Memory>
     requires clean { tx.old.mark ≡ Mark.Clean }
     requires rest { IsAtRest tx.old.present }
     requires fits { Fits (view_of command.now) }
     ensures opening { tx.new.opening ≡ tx.old.opening }
-    ensures accepted { result ≡ Ok true → Accepted tx.old.present number (view_of command.now) text.new.items tx.new }
-    ensures refused { result ≡ Ok false → Declined tx.old.present number (view_of command.now) text.new.items }
+    ensures accepted { result ≡ Ok Trial.Accepted → Accepted tx.old.present number (view_of command.now) text.new.items tx.new }
+    ensures refused { result ≡ Ok Trial.Declined → Declined tx.old.present number (view_of command.now) text.new.items }
 {
     match perform(alloc, tx, command) {
         Ok(answer) => {
             write_reply(text, number, &answer)?;
-            Ok(true)
+            Ok(Trial::Accepted)
         }
         Err(Fault::Refused(why)) => {
             write_reply(text, number, &Answer::Refused(why))?;
-            Ok(false)
+            Ok(Trial::Declined)
         }
         Err(Fault::Memory) => Err(Memory),
     }
