@@ -6,6 +6,7 @@ its caller counts there, so the shares are rough, but they are the same on every
 has built the program; it wants valgrind.
 """
 import itertools
+import os
 import random
 import re
 import subprocess
@@ -18,6 +19,8 @@ from plain import plain_lines
 from trades import flash, opening, swap_along
 
 LINES = 20_000
+# A wide field is cleared by one instruction of the processor that valgrind counts once for each byte. So memory is cleared by a loop of wide stores here.
+BY_LOOPS = {"GLIBC_TUNABLES": "glibc.cpu.x86_rep_stosb_threshold=1048576"}
 # The first that fits names a function's group.
 GROUPS = [
     ("amm_command, the short way: a plain line as a command", r"^amm_command::plain"),
@@ -57,7 +60,7 @@ def count(path, folder):
     file = Path(folder) / "callgrind"
     with open(path) as lines:
         words = ["valgrind", "--tool=callgrind", f"--callgrind-out-file={file}", str(PROGRAM), "run"]
-        subprocess.run(words, stdin=lines, stdout=subprocess.DEVNULL, stderr=subprocess.DEVNULL, check=True)
+        subprocess.run(words, stdin=lines, stdout=subprocess.DEVNULL, stderr=subprocess.DEVNULL, check=True, env={**os.environ, **BY_LOOPS})
     text = subprocess.run(["callgrind_annotate", "--threshold=100", str(file)], capture_output=True, text=True, check=True).stdout
     found = Counter()
     for number, name in re.findall(r"^\s*([\d,]+) \(.*?%\)  \S+?:(\S.*?) \[", text, re.M):
