@@ -2,3 +2,5 @@ pub mod Sides
 pub mod Walks
 pub mod Lists
 pub mod AllPaths
+pub mod Markets
+pub mod Ledgers

@@ -1,8 +1,11 @@
-//! Paths over the pools of a problem, and what they give.
+//! The routing problem of a ledger, and paths over the pools of a problem with what they give.
 #![tactic(auto)]
 
 mod amounts;
+mod market;
 mod path;
+#[cfg(test)]
+mod tests;
 mod walk;
 
 ghost use Rattle.std.specs.Prelude.{◌≡◌, ◌≢◌, ◌<◌, [], IfOk, length, map, slice_index_or};
@@ -11,6 +14,7 @@ ghost use Rattle.amm_graph.specs.Hops.{hops_of};
 
 use amm_model::{Memory, OpenProblem, Problem};
 pub use amounts::{along, gives};
+pub use market::{open_problem, problem};
 pub use path::Path;
 use std::alloc::Global;
 use walk::{Ends, extend};
@@ -41,49 +45,4 @@ pub fn paths_between(
     let mut found = Vec::new(alloc);
     extend(problem, Ends { from, to }, &Path::empty(), from, &mut found)?;
     Ok(found)
-}
-
-#[cfg(test)]
-mod tests {
-    use super::*;
-    use amm_model::{PoolName, ProblemPool, TokenName};
-
-    // 100000 of A to T over A/M, A/T and M/T, of a million each side.
-    fn triangle(alloc: Global) -> Option<Problem> {
-        let a = TokenName::read(alloc, b"A").ok()??;
-        let m = TokenName::read(alloc, b"M").ok()??;
-        let t = TokenName::read(alloc, b"T").ok()??;
-        let mut pools = Vec::new(alloc);
-        pools.push(million(alloc, &a, &m)?).ok()?;
-        pools.push(million(alloc, &a, &t)?).ok()?;
-        pools.push(million(alloc, &m, &t)?).ok()?;
-        Problem::from_parts(alloc, a, t, 100000, pools).ok()?
-    }
-
-    fn million(alloc: Global, token0: &TokenName, token1: &TokenName) -> Option<ProblemPool> {
-        let name = PoolName::of(alloc, token0, token1, 3).ok()??;
-        let r = 1000000;
-        Some(ProblemPool {
-            name,
-            r0: r,
-            r1: r,
-            b0: r,
-            b1: r,
-        })
-    }
-
-    // How many paths there are, and the place of the first pool of the first.
-    fn counted(alloc: Global) -> Option<(usize, u32)> {
-        let problem = triangle(alloc)?;
-        let all = paths(alloc, &problem).ok()?;
-        if all.is_empty() {
-            return None;
-        }
-        Some((all.len(), all[0].hop0.pool))
-    }
-
-    #[test]
-    fn two_paths(rt: HostRuntime) {
-        assert_eq!(rt; counted(rt.alloc()), Some((2, 0)));
-    }
 }
