@@ -2,9 +2,9 @@
 """The values that a routed answer is measured by, from their definitions and nothing else.
 
 Goes through all lists of pools, all pairs of paths and all shares of small problems, one after the
-other as the definitions of amm_model/specs (Paths, Values, Spreads, Baskets, Cycles, Bound) say,
-with exact integers, and compares with values that were worked out by hand. It shares no code with
-the engine. Exits with 1 where a value differs.
+other as the definitions of amm_model/specs (Paths, Values, Spreads, Baskets, Cycles, Bound,
+Observations, WeightedPrices) say, with exact integers, and compares with values that were worked
+out by hand. It shares no code with the engine. Exits with 1 where a value differs.
 """
 
 import itertools
@@ -12,6 +12,7 @@ import sys
 from math import isqrt
 
 WIDTH = 1 << 48  # reserves and balances that a pool can take are below this
+PLACES = 1 << 48  # an average price has 48 binary places
 
 
 class Pool:
@@ -173,6 +174,40 @@ def bound(pools, parts, target, prices):
     return value // prices[target]
 
 
+def spot_price(units, per):
+    return units * PLACES // per if units and per else 0
+
+
+def price0(r0, r1):
+    return spot_price(r1, r0)
+
+
+def price1(r0, r1):
+    return spot_price(r0, r1)
+
+
+def weighted_sum(stretch, price):
+    """Each price by its seconds, of a list of the time and the reserves that each line leaves."""
+    return sum((b[0] - a[0]) * price(*a[1:]) for a, b in zip(stretch, stretch[1:]))
+
+
+def weighted_average(stretch, price):
+    return weighted_sum(stretch, price) // (stretch[-1][0] - stretch[0][0])
+
+
+def reading(stretch, price):
+    """An accumulator that starts at 0 and is updated at each line: times modulo 2^32."""
+    acc = 0
+    for a, b in zip(stretch, stretch[1:]):
+        elapsed = (b[0] % 2**32 + 2**32 - a[0] % 2**32) % 2**32
+        acc = (acc + price(*a[1:]) * elapsed) % 2**128
+    return acc
+
+
+def at_average(average, amount):
+    return average * amount // PLACES
+
+
 MILLION = 10**6
 
 
@@ -218,6 +253,28 @@ def cases():
     unequal = [Pool("EU", MILLION, 4 * MILLION), Pool("EU", MILLION, 5 * MILLION, fee=1)]
     yield "cycle, best power of two", max(cycle_values(unequal, "U")), 288662 - 262144
     yield "cycle, none in one pool", sum(1 for _ in cycle_values(unequal[:1], "U")), 0
+    yield from average_cases()
+
+
+def average_cases():
+    # A million ETH and four million USD for ten seconds, then two million ETH for twenty. The price
+    # of ETH is 4, then 2: 10*4 + 20*2 = 80 by seconds. That of USD is 1/4, then 1/2: 25/2. In units
+    # of 2^-48 these are 80*2^48 and 25*2^47, and a thirtieth of each, rounded down, is the average.
+    # 3000 ETH come to floor(3000*80/30 less a little) = 7999.
+    stretch = [(0, MILLION, 4 * MILLION), (10, MILLION, 4 * MILLION)]
+    stretch += [(10, 2 * MILLION, 4 * MILLION), (30, 2 * MILLION, 4 * MILLION)]
+    for price, acc, average in (
+        (price0, 22517998136852480, 750599937895082),
+        (price1, 3518437208883200, 117281240296106),
+    ):
+        yield f"sum of {price.__name__}", weighted_sum(stretch, price), acc
+        yield f"reading of {price.__name__}", reading(stretch, price), acc
+        yield f"average of {price.__name__}", weighted_average(stretch, price), average
+    yield "amount at the average", at_average(weighted_average(stretch, price0), 3000), 7999
+    # Equal reserves for ten seconds, in which the time passes 2^32: ten times 2^48, and 2^48.
+    stretch = [(4294967291, MILLION, MILLION), (4294967301, MILLION, MILLION)]
+    yield "reading past 2^32", reading(stretch, price0), 2814749767106560
+    yield "average past 2^32", weighted_average(stretch, price0), 281474976710656
 
 
 def main():

@@ -35,6 +35,8 @@ pub mod SplitAnswers
 pub mod Settlement
 pub mod Baskets
 pub mod Cycles
+pub mod Observations
+pub mod WeightedPrices
 pub mod Certificate
 -- Words of the proofs: what is known of a command that was read, of a later ledger, of a ledger's
 -- tables, and of ledgers as values. No promise to users speaks of them.
