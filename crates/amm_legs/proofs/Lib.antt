@@ -1,3 +1,4 @@
 pub mod Legs
 pub mod Places
+pub mod Portions
 pub mod Steps

@@ -1,15 +1,9 @@
 -- What stands at the places of tokens, before the first leg and after one more.
-use Rattle.std.proofs.Common.{◌≡◌, ◌≢◌, ℕ, ◌+◌, ◌-◌, ◌<◌, inl, inr, Bool, true, false, cond, nat_eq, List, [], length, arith, refl, sym, ap, subst, ◌∙◌, get_or, set}
-use Rattle.std.specs.Prelude.{AllPairs}
-use Rattle.std.specs.Cmp.{both_ways}
-use Rattle.std.specs.Str.{bytes_eq}
+use Rattle.std.proofs.Common.{◌≡◌, ℕ, ◌+◌, ◌-◌, ◌<◌, inl, inr, Bool, true, false, cond, nat_eq, List, length, arith, refl, ap, subst, ◌∙◌, get_or, set}
 use Rattle.std.proofs.lemmas.Bool.{cases_lt}
 use Rattle.std.proofs.lemmas.Bool.Decides.{nat_tests}
-use Rattle.std.proofs.lemmas.Slice.Eq.{bytes_eq-Decides}
 use Rattle.std.proofs.lemmas.List.{get_or-replicate, get_or-set_same, get_or-set_other}
-use Rattle.std.proofs.lemmas.List.Sums.{passes_at_first}
 use Rattle.std.proofs.Math.ListN.{replicate, length-replicate, length-set, get_or-eq_default}
-use Rattle.amm_model.specs.Routing.{Name, token_place}
 
 -- one place is set
 pub read_set : (xs : List ℕ) (i y j : ℕ) → i < length xs → get_or (set xs i y) j 0 ≡ cond (nat_eq j i) y (get_or xs j 0)
