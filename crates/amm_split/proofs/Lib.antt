@@ -1,3 +1,10 @@
-pub mod Pairs2
 pub mod AtSizes
+pub mod Best
 pub mod Bridge
+pub mod Choices
+pub mod Determined
+pub mod Hops
+pub mod OneOrTwo
+pub mod Pairs2
+pub mod RowByRow
+pub mod Taken

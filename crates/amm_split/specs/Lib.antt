@@ -1,2 +1,4 @@
+pub mod Deliveries
 pub mod Pairs
+pub mod Shares
 pub mod Sizes

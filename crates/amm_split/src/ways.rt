@@ -1,0 +1,75 @@
+//! The best of one and two ways, as legs.
+ghost use Rattle.std.specs.Prelude.{◌≡◌, ℕ, IfOk, MatchOption, map};
+ghost use Rattle.amm_model.specs.Routing.{opened};
+ghost use Rattle.amm_model.specs.Legs.{Delivers};
+ghost use Rattle.amm_model.specs.Paths.{AreAllPaths};
+ghost use Rattle.amm_model.specs.SplitAnswers.{HasNoRoute};
+ghost use Rattle.amm_model.specs.Values.{AtLeastTheWays, IsOneOrTwoWayValue};
+ghost use Rattle.amm_graph.specs.Hops.{hops_of};
+ghost use Rattle.amm_split.specs.Sizes.{IsWayOf};
+ghost use Rattle.amm_split.specs.Deliveries.{IsBestOfWays};
+
+use crate::deliveries::Delivery;
+use crate::legs::push_legs;
+use crate::shares::sixteenths;
+use crate::sizes::{BestWay, best_way};
+use crate::source::source_amount;
+use amm_graph::{Path, paths};
+use amm_model::{LegList, Memory, Problem, Route};
+use std::alloc::Global;
+
+/// A route of the problem that delivers its greatest one-way or two-way value; None exactly where
+/// it has none.
+pub fn best_two_way(alloc: Global, problem: &Problem) -> Result<Option<Route>, Memory>
+    ensures { IfOk result (λ best. MatchOption best (HasNoRoute problem.now) (λ route. (amount : ℕ) × Delivers (opened problem.now) route.legs amount
+        × IsOneOrTwoWayValue problem.now.pools problem.now.s problem.now.t problem.now.d amount
+        × AtLeastTheWays problem.now.pools problem.now.s problem.now.t problem.now.d amount)) }
+{
+    let all = paths(alloc, problem)?;
+    let Some(found) = best_of_ways(alloc, problem, &all)? else {
+        return Ok(None);
+    };
+    Ok(Some(Route { legs: found.legs }))
+}
+
+/// The same with what it delivers, over all paths of the problem.
+pub fn best_of_ways(
+    alloc: Global,
+    problem: &Problem,
+    paths: &[Path],
+) -> Result<Option<Delivery>, Memory>
+    requires paths { AreAllPaths problem.now.pools problem.now.s problem.now.t (map hops_of paths.now) }
+    ensures { IfOk result (λ best. MatchOption best (HasNoRoute problem.now) (λ found. IsBestOfWays problem.now found)) }
+{
+    let best = best_way(alloc, problem.as_open(), paths, source_amount(problem))?;
+    if best.amount == 0 {
+        return Ok(None);
+    }
+    let legs = legs_of_way(alloc, problem, paths, &best)?;
+    Ok(Some(Delivery {
+        legs,
+        amount: best.amount,
+    }))
+}
+
+// The legs of one or two of the paths.
+fn legs_of_way(
+    alloc: Global,
+    problem: &Problem,
+    paths: &[Path],
+    way: &BestWay,
+) -> Result<LegList, Memory>
+    requires paths { AreAllPaths problem.now.pools problem.now.s problem.now.t (map hops_of paths.now) }
+    requires way { IsWayOf problem.now.pools paths.now problem.now.d way.now }
+    ensures { IfOk result (λ legs. Delivers (opened problem.now) legs way.now.amount) }
+{
+    let d = source_amount(problem);
+    let x = sixteenths(d, way.k as usize);
+    let mut legs = Vec::new(alloc);
+    push_legs(problem.as_open(), &paths[way.first], x, &mut legs)?;
+    let Some(second) = way.second else {
+        return Ok(LegList::from_vec(legs));
+    };
+    push_legs(problem.as_open(), &paths[second], d - x, &mut legs)?;
+    Ok(LegList::from_vec(legs))
+}
