@@ -6,4 +6,4 @@ pub mod Ending
 pub mod Shares
 pub mod Burning
 pub mod Laters
-mod Straight
+pub mod Straight

@@ -1,0 +1,9 @@
+pub mod Moved
+pub mod Swapping
+pub mod Rule
+pub mod Trading
+pub mod ZeroSide
+pub mod OneSide
+pub mod OneLeg
+pub mod AllLegs
+pub mod Settled

@@ -1,0 +1,23 @@
+use Rattle.std.proofs.Common.{subst, sym}
+use Rattle.amm_model.specs.declared.problem.ProblemPool.{ProblemPool}
+use Rattle.std.specs.Prelude.{List}
+use Rattle.amm_model.specs.Ledger.{Ledger}
+use Rattle.amm_state.proofs.Meets.{on_ok}
+use Rattle.amm_settle.specs.Paid.{IsPaidAsQuoted}
+use Rattle.amm_settle.specs.Places.{AreThere}
+use Rattle.amm_settle.proofs.Settled.{legs_there, refused_so, settle_codes, settle_pays}
+use Rattle.amm_settle.proofs.settling.settle.Goals as goal
+
+pub settle_over-requires-clause-there : goal.settle_over-requires-clause-there
+settle_over-requires-clause-there c =
+    subst (λ (pools : List ProblemPool). AreThere pools c.args.quote.now.route.legs) (sym c.pools-pools.ensures.list)
+    (legs_there c.args.quote.now.problem.pools _ _ c.args.quote.now.route.legs c.requires.delivers.0)
+
+pub returns-clause-paid : goal.returns-clause-paid
+returns-clause-paid c =
+    on_ok (λ (l : Ledger). IsPaidAsQuoted c.args.tx.now.present l c.args.actor.now c.args.quote.now) _ _ _ _ c.settle_over.ensures.meets
+    (λ made is. settle_pays _ _ _ _ made (record { problem = c.pools-pools.ensures.sound; delivers = c.requires.delivers }) is)
+
+pub returns-clause-codes : goal.returns-clause-codes
+returns-clause-codes c why is =
+    settle_codes _ _ _ _ (record { problem = c.pools-pools.ensures.sound; delivers = c.requires.delivers }) why (refused_so _ _ _ _ c.settle_over.ensures.meets why is)

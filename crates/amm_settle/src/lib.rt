@@ -1,0 +1,15 @@
+//! Settlement: a quote is paid exactly as it was made, or nothing happens.
+//!
+//! `settle` takes a user through the legs of a quote: each input goes from him to its pool, and the
+//! pool swaps the output to him. It is refused by EXPIRED, LOCKED, STALE or FUNDS alone, in this
+//! order: where the pools of its legs are as they were quoted, no pool refuses a leg, and he has
+//! exactly what the quote delivers.
+#![tactic(auto)]
+
+mod as_quoted;
+mod legs;
+mod settling;
+#[cfg(test)]
+mod tests;
+
+pub use settling::settle;

@@ -1,0 +1,167 @@
+//! A pool of 1000000 ETH and 4000000 USD, alice with some ETH left, and a quote of 10000 ETH.
+ghost use Rattle.std.specs.Prelude.{◌≡◌, OnOk, IfOk};
+ghost use Rattle.amm_model.specs.Legs.{Delivers};
+ghost use Rattle.amm_model.specs.Routing.{opened};
+ghost use Rattle.amm_model.specs.Sound.{IsAtRest};
+ghost use Rattle.amm_state.specs.declared.mark.Mark.{Mark};
+
+use amm_factory::create;
+use amm_legs::legs_delivered;
+use amm_model::{
+    Asset, Fault, Holder, Leg, LegList, PoolName, Prices, Problem, ProblemPool, Quote, Route,
+    TokenName, UserName,
+};
+use amm_pair::mint;
+use amm_state::Tx;
+use std::alloc::Global;
+use std::test::Fail;
+
+#[derive(Clone, Copy, Drop)]
+pub struct Names {
+    pub eth: TokenName,
+    pub usd: TokenName,
+    pub alice: UserName,
+}
+
+fn token(alloc: Global, text: &[u8]) -> Result<TokenName, Fail> {
+    match TokenName::read(alloc, text)? {
+        Some(name) => Ok(name),
+        None => Err("no token")?,
+    }
+}
+
+pub fn read_names(alloc: Global) -> Result<Names, Fail> {
+    let Some(alice) = UserName::read(alloc, b"alice".as_slice())? else {
+        return Err("no user")?;
+    };
+    Ok(Names {
+        eth: token(alloc, b"ETH".as_slice())?,
+        usd: token(alloc, b"USD".as_slice())?,
+        alice,
+    })
+}
+
+/// Units of a token for a holder.
+pub fn give(alloc: Global, tx: &mut Tx, token: &TokenName, to: &Holder, n: u64) -> Result<(), Fault>
+    requires clean { tx.old.mark ≡ Mark.Clean }
+    requires rest { IsAtRest tx.old.present }
+    ensures clean { OnOk result (tx.new.mark ≡ Mark.Clean) }
+    ensures rest { OnOk result (IsAtRest tx.new.present) }
+{
+    tx.list_token(alloc, token)?;
+    tx.issue(alloc, &Asset::Token(*token), to, n)
+}
+
+fn create_pool(alloc: Global, tx: &mut Tx, a: &TokenName, b: &TokenName) -> Result<PoolName, Fault>
+    requires clean { tx.old.mark ≡ Mark.Clean }
+    requires rest { IsAtRest tx.old.present }
+    ensures clean { OnOk result (tx.new.mark ≡ Mark.Clean) }
+    ensures rest { OnOk result (IsAtRest tx.new.present) }
+{
+    let _ = a.as_bytes();
+    let _ = b.as_bytes();
+    create(alloc, tx, a, b, 3)
+}
+
+fn send(
+    alloc: Global,
+    tx: &mut Tx,
+    token: &TokenName,
+    from: &UserName,
+    pool: &PoolName,
+    n: u64,
+) -> Result<(), Fault>
+    requires clean { tx.old.mark ≡ Mark.Clean }
+    requires rest { IsAtRest tx.old.present }
+    ensures clean { OnOk result (tx.new.mark ≡ Mark.Clean) }
+    ensures rest { OnOk result (IsAtRest tx.new.present) }
+{
+    tx.move_units(
+        alloc,
+        &Asset::Token(*token),
+        &Holder::User(*from),
+        &Holder::Pool(*pool),
+        n,
+    )
+}
+
+fn mint_shares(alloc: Global, tx: &mut Tx, pool: &PoolName, to: &UserName) -> Result<(), Fault>
+    requires clean { tx.old.mark ≡ Mark.Clean }
+    requires rest { IsAtRest tx.old.present }
+    ensures clean { OnOk result (tx.new.mark ≡ Mark.Clean) }
+    ensures rest { OnOk result (IsAtRest tx.new.present) }
+{
+    mint(alloc, tx, pool, &Holder::User(*to))?;
+    Ok(())
+}
+
+/// The pool, whose shares are alice's, and `left` ETH for her.
+pub fn open_pool(alloc: Global, tx: &mut Tx, names: &Names, left: u64) -> Result<PoolName, Fault>
+    requires clean { tx.old.mark ≡ Mark.Clean }
+    requires rest { IsAtRest tx.old.present }
+    ensures clean { OnOk result (tx.new.mark ≡ Mark.Clean) }
+    ensures rest { OnOk result (IsAtRest tx.new.present) }
+{
+    let alice = Holder::User(names.alice);
+    give(alloc, tx, &names.eth, &alice, 1_000_000)?;
+    give(alloc, tx, &names.usd, &alice, 4_000_000)?;
+    let pool = create_pool(alloc, tx, &names.eth, &names.usd)?;
+    send(alloc, tx, &names.eth, &names.alice, &pool, 1_000_000)?;
+    send(alloc, tx, &names.usd, &names.alice, &pool, 4_000_000)?;
+    mint_shares(alloc, tx, &pool, &names.alice)?;
+    give(alloc, tx, &names.eth, &alice, left)?;
+    Ok(pool)
+}
+
+// The pool as it is quoted.
+fn quoted_pools(alloc: Global, pool: PoolName) -> Result<Vec<ProblemPool>, Fail> {
+    let mut pools = Vec::new(alloc);
+    pools.push(ProblemPool {
+        name: pool,
+        r0: 1_000_000,
+        r1: 4_000_000,
+        b0: 1_000_000,
+        b1: 4_000_000,
+    })?;
+    Ok(pools)
+}
+
+// Both prices are 2^20: settling does not look at them.
+fn quoted_prices(alloc: Global) -> Result<Prices, Fail> {
+    let mut prices = Vec::new(alloc);
+    prices.push(1_048_576)?;
+    prices.push(1_048_576)?;
+    match Prices::from_parts(prices) {
+        Some(prices) => Ok(prices),
+        None => Err("no prices")?,
+    }
+}
+
+/// 10000 ETH for 39486 USD: floor(997*10000*4000000 / (1000*1000000 + 997*10000)) = 39486.
+pub fn quote(alloc: Global, names: &Names, pool: PoolName) -> Result<Quote, Fail>
+    ensures { IfOk result (λ quote. Delivers (opened quote.problem) quote.route.legs quote.delivered) }
+{
+    let pools = quoted_pools(alloc, pool)?;
+    let Some(problem) = Problem::from_parts(alloc, names.eth, names.usd, 10_000, pools)? else {
+        return Err("no problem")?;
+    };
+    let mut legs = Vec::new(alloc);
+    legs.push(Leg {
+        pool: 0,
+        zero_in: true,
+        input: 10_000,
+        output: 39_486,
+    })?;
+    let legs = LegList::from_vec(legs);
+    let Some(delivered) = legs_delivered(&problem, legs.as_slice()) else {
+        return Err("no route")?;
+    };
+    let prices = quoted_prices(alloc)?;
+    Ok(Quote {
+        problem,
+        prices,
+        route: Route { legs },
+        delivered,
+        bound: 40_000,
+    })
+}
