@@ -13,6 +13,7 @@ mod stream;
 mod sure;
 #[cfg(test)]
 mod tests;
+mod whole;
 
 pub use memory::{MemSink, MemSource};
 pub use sink::{IoFail, Sink, WriteEnd, write_all};
@@ -20,3 +21,4 @@ pub use source::{Failed, IoEnd, Source};
 pub use standard::{StdSink, StdSource};
 pub use stream::{Lines, Stop};
 pub use sure::{SureSink, SureSource};
+pub use whole::read_within;
