@@ -63,7 +63,7 @@ TakesWithin-status limit left_before left_after before after old InputLimit done
     record { bytes = r.input; given = r.taken; most = omega (arith, r.passed); passed = λ is. omega (arith, r.passed); stopped = λ more. inl refl }
 
 -- a source that tells its bytes gives no more of them than there are
-given_within : (input given : List ℕ) (left : Option (List ℕ)) → Consumes (Some input) left given → length given ≤ length input
+pub given_within : (input given : List ℕ) (left : Option (List ℕ)) → Consumes (Some input) left given → length given ≤ length input
 given_within input given None taken = absurd taken
 given_within input given (Some rest) taken = omega (arith, ap length taken, length-append given rest)
 

@@ -1,7 +1,11 @@
 //! The program: with the word `run` it answers the lines of standard input on standard output,
-//! exactly as a Uniswap v2 ledger answers them.
+//! exactly as a Uniswap v2 ledger answers them. With the word `check` it takes standard input for a
+//! certificate, and writes one line: a yes with what the certificate's legs deliver and the bound
+//! that no route over its pools beats, or the first thing that is not so.
 #![tactic(auto)]
 
+mod checker;
+mod finding;
 mod number;
 #[cfg(test)]
 mod tests;

@@ -2,20 +2,23 @@
 ghost use Rattle.std.specs.Prelude.{◌≡◌, ◌≢◌, ◌≤◌, ◌⊎◌, ◌↔◌, ℕ, List, Some, length};
 ghost use Rattle.amm_io.specs.Causes.{HasCause, Rose};
 ghost use Rattle.amm_io.specs.Traffic.{TakesWithin};
-ghost use Rattle.amm_model.specs.declared.limits.TheConstants.{INPUT_LIMIT};
+ghost use Rattle.amm_model.specs.declared.limits.TheConstants.{CHECK_LIMIT, INPUT_LIMIT};
 ghost use Rattle.amm_model.specs.Ledger.{Ledger, opening_ledger};
 ghost use Rattle.amm_engine.specs.Service.{ServesAll, ServesEnded, ServesToLimit, BreaksOff, LacksMemory};
-ghost use Rattle.exchange.specs.declared.words.Request.TheVariants.{Run};
+ghost use Rattle.exchange.specs.declared.words.Request.TheVariants.{Check, Run};
 ghost use Rattle.exchange.specs.Words.{Asks};
+ghost use Rattle.exchange.specs.Findings.{Assures, CutsFinding, TellsFinding};
 ghost use Rattle.exchange.specs.Headline.{RepliesToAll};
 
+use crate::checker::check;
 use crate::words::{Request, request_of};
 use amm_engine::{Engine, Seed, Status};
 use amm_io::{Sink, Source};
 use std::alloc::Global;
 
 /// Does all that the program does: with the one word `run` it answers the lines of the source on
-/// the sink. No clause speaks of the seed: it decides only where names lie in the tables.
+/// the sink, with the one word `check` it tells on the sink what is found of a certificate. No
+/// clause speaks of the seed: it decides only where names lie in the tables.
 pub fn exchange<S: Source, K: Sink>(
     alloc: Global,
     seed: Seed,
@@ -23,35 +26,49 @@ pub fn exchange<S: Source, K: Sink>(
     source: &mut S,
     sink: &mut K,
 ) -> Status
-    ensures replies { (input before : List ℕ) → S.left source.old ≡ Some input → K.written sink.old ≡ Some before →
-        result ≡ Status.Done → RepliesToAll input before (S.left source.new) (K.written sink.new) }
-
-    // Only a run is built so far.
-    ensures usage { (result ≡ Status.Usage) ↔ (Asks words.now Run → ⊥) }
+    // The lines that `work` makes are not built so far.
+    ensures usage { (result ≡ Status.Usage) ↔ ((Asks words.now Run → ⊥) × (Asks words.now Check → ⊥)) }
     ensures untouched { result ≡ Status.Usage → (source.new ≡ source.old) × (sink.new ≡ sink.old) }
-    ensures never { result ≢ Status.No }
-
     ensures read_fault { HasCause (S.faults source.old) (S.faults source.new) (result ≡ Status.ReadFault) }
     ensures write_fault { HasCause (K.faults sink.old) (K.faults sink.new) (result ≡ Status.WriteFault) }
-    ensures limit { TakesWithin INPUT_LIMIT (S.left source.old) (S.left source.new)
-        (result ≡ Status.InputLimit) ((result ≡ Status.WriteFault) ⊎ (result ≡ Status.Memory)) }
 
-    ensures ended { result ≡ Status.ReadFault → (final : Ledger) ×
+    // With the word `run`.
+    ensures replies { Asks words.now Run → (input before : List ℕ) → S.left source.old ≡ Some input → K.written sink.old ≡ Some before →
+        result ≡ Status.Done → RepliesToAll input before (S.left source.new) (K.written sink.new) }
+    ensures limit { Asks words.now Run → TakesWithin INPUT_LIMIT (S.left source.old) (S.left source.new)
+        (result ≡ Status.InputLimit) ((result ≡ Status.WriteFault) ⊎ (result ≡ Status.Memory)) }
+    ensures ended { Asks words.now Run → result ≡ Status.ReadFault → (final : Ledger) ×
         ServesEnded INPUT_LIMIT (S.left source.old) (S.left source.new) (K.written sink.old) (K.written sink.new) opening_ledger final }
-    ensures passed { result ≡ Status.InputLimit → (final : Ledger) ×
+    ensures passed { Asks words.now Run → result ≡ Status.InputLimit → (final : Ledger) ×
         ServesToLimit INPUT_LIMIT (S.left source.old) (S.left source.new) (K.written sink.old) (K.written sink.new) opening_ledger final }
-    ensures broken { result ≡ Status.WriteFault → (final : Ledger) ×
+    ensures broken { Asks words.now Run → result ≡ Status.WriteFault → (final : Ledger) ×
         BreaksOff INPUT_LIMIT (S.left source.old) (S.left source.new) (K.written sink.old) (K.written sink.new) opening_ledger final }
-    ensures memory { result ≡ Status.Memory → (final : Ledger) ×
+    ensures memory { Asks words.now Run → result ≡ Status.Memory → (final : Ledger) ×
         LacksMemory INPUT_LIMIT (S.left source.old) (S.left source.new) (K.written sink.old) (K.written sink.new) opening_ledger final }
 
     // With no fault, an input within its limit is answered to its end, unless memory runs out.
     ensures complete { Asks words.now Run → (Rose (S.faults source.old) (S.faults source.new) → ⊥) → (Rose (K.faults sink.old) (K.faults sink.new) → ⊥) →
         ((input : List ℕ) × (S.left source.old ≡ Some input) × (length input ≤ INPUT_LIMIT)) → (result ≡ Status.Done) ⊎ (result ≡ Status.Memory) }
+
+    // With the word `check`. No comes with it alone.
+    ensures checks { result ≡ Status.No → Asks words.now Check }
+    ensures tells { Asks words.now Check → (result ≡ Status.Done) ⊎ (result ≡ Status.No) →
+        TellsFinding CHECK_LIMIT (S.left source.old) (S.left source.new) (K.written sink.old) (K.written sink.new) result }
+    ensures assures { Asks words.now Check → result ≡ Status.Done →
+        Assures CHECK_LIMIT (S.left source.old) (S.left source.new) (K.written sink.old) (K.written sink.new) }
+    ensures check_limit { Asks words.now Check → TakesWithin CHECK_LIMIT (S.left source.old) (S.left source.new) (result ≡ Status.InputLimit) ⊥ }
+    ensures unwritten { Asks words.now Check → (result ≡ Status.ReadFault) ⊎ (result ≡ Status.InputLimit) → sink.new ≡ sink.old }
+    ensures cut { Asks words.now Check → result ≡ Status.WriteFault →
+        CutsFinding CHECK_LIMIT (S.left source.old) (S.left source.new) (K.written sink.old) (K.written sink.new) }
+    ensures check_memory { Asks words.now Check → result ≡ Status.Memory → (sink.new ≡ sink.old)
+        ⊎ CutsFinding CHECK_LIMIT (S.left source.old) (S.left source.new) (K.written sink.old) (K.written sink.new) }
+    ensures check_complete { Asks words.now Check → (Rose (S.faults source.old) (S.faults source.new) → ⊥) → (Rose (K.faults sink.old) (K.faults sink.new) → ⊥) →
+        ((input : List ℕ) × (S.left source.old ≡ Some input) × (length input ≤ CHECK_LIMIT)) → (result ≡ Status.Done) ⊎ (result ≡ Status.No) ⊎ (result ≡ Status.Memory) }
 {
     match request_of(words) {
         Some(Request::Run) => run(alloc, seed, source, sink),
-        Some(Request::Check | Request::Work { .. }) => Status::Usage,
+        Some(Request::Check) => check(alloc, source, sink),
+        Some(Request::Work { .. }) => Status::Usage,
         None => Status::Usage,
     }
 }
