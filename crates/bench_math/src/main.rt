@@ -1,7 +1,11 @@
 //! Nanoseconds of the formulas: roots, worths and bounds, over numbers that a fixed seed makes.
+//! With the word `search`: microseconds of the search for prices, over problems that seeds make.
 //!
 //! It measures only when it is given a word; with none it does nothing.
 #![tactic(auto)]
+
+mod markets;
+mod search;
 
 ghost use Rattle.std.specs.Prelude.{◌<◌, ◌≤◌, ◌^◌};
 
@@ -149,16 +153,21 @@ fn measure_bounds(rt: &HostRuntime) -> io::Result<()> {
     println!(rt; "bound over {pools} pools: {each} ns (sum {sum})")
 }
 
-fn main(rt: HostRuntime) -> io::Result<()> {
-    if env::args(&rt)?.count() < 2 {
-        return Ok(());
-    }
-    measure_roots(&rt, 40)?;
-    measure_roots(&rt, 96)?;
-    measure_roots(&rt, 126)?;
-    let start = Instant::now(&rt)?;
+fn measure_formulas(rt: &HostRuntime) -> io::Result<()> {
+    measure_roots(rt, 40)?;
+    measure_roots(rt, 96)?;
+    measure_roots(rt, 126)?;
+    let start = Instant::now(rt)?;
     let sum = worths();
-    let each = start.elapsed(&rt)?.as_nanos() / ROOTS as u128;
+    let each = start.elapsed(rt)?.as_nanos() / ROOTS as u128;
     println!(rt; "worth: {each} ns (sum {sum})")?;
-    measure_bounds(&rt)
+    measure_bounds(rt)
+}
+
+fn main(rt: HostRuntime) -> io::Result<()> {
+    match env::args(&rt)?.nth(1) {
+        None => Ok(()),
+        Some(word) if word.as_str() == "search" => search::measure(&rt),
+        Some(_) => measure_formulas(&rt),
+    }
 }
