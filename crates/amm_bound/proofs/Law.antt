@@ -11,7 +11,8 @@ use Rattle.std.proofs.Math.ListN.{length-map}
 use Rattle.std.proofs.lemmas.Nat.{le-div}
 use Rattle.amm_model.specs.declared.problem.Part.{Part}
 use Rattle.amm_model.specs.declared.problem.ProblemPool.{ProblemPool}
-use Rattle.amm_model.specs.Routing.{Name, OpenView, Trade, IsBefore, IsOpenProblem, IsTrade, IsRoute, ArePrices, token_place, pool_of, no_pool, fee_of, token0_of, token1_of, given, given_by_parts, delivered_by}
+use Rattle.amm_model.specs.Routing.{OpenView, PoolTrade, IsBefore, IsOpenProblem, IsTrade, IsRoute, ArePrices, token_place, pool_of, no_pool, fee_of, token0_of, token1_of, amount_given, given_by_parts, delivered_by}
+use Rattle.amm_names.specs.Names.{Name}
 use Rattle.amm_model.specs.Bound.{price_of, part_value, pool_worth, bound_of}
 use Rattle.amm_model.proofs.Sums.{Once, In, at, once_places, sum_at, sum_by-plus, sum_by-same, sum_of_places-le}
 use Rattle.amm_model.proofs.Swap.{fee_range}
@@ -39,19 +40,19 @@ in_from_place ts name below =
     subst (λ (n : Name). In n ts) (sym found) (in_from_index ts (token_place ts name) [] below)
 
 -- each trade's tokens are among the problem's
-trade_tokens_in : (tokens : List Name) (pools : List ProblemPool) (route : List Trade) →
+trade_tokens_in : (tokens : List Name) (pools : List ProblemPool) (route : List PoolTrade) →
     All (λ (pool : ProblemPool). (token_place tokens (token0_of pool) < length tokens) × (token_place tokens (token1_of pool) < length tokens)) pools →
     AllByRecursion (IsTrade pools) route →
-    AllByRecursion (λ (r : Trade). In (token0_of (pool_of pools r)) tokens × In (token1_of (pool_of pools r)) tokens) route
+    AllByRecursion (λ (r : PoolTrade). In (token0_of (pool_of pools r)) tokens × In (token1_of (pool_of pools r)) tokens) route
 trade_tokens_in tokens pools [] has trades = tt
 trade_tokens_in tokens pools (r ∷ route) has trades =
     let here = has r.place no_pool trades.0.there in
     ((in_from_place tokens _ here.0, in_from_place tokens _ here.1), trade_tokens_in tokens pools route has trades.1)
 
 -- each trade is covered by its pool's worth, which stands at its place among the worths
-trades_covered : (tokens : List Name) (prices : List ℕ) (pools : List ProblemPool) (route : List Trade) →
+trades_covered : (tokens : List Name) (prices : List ℕ) (pools : List ProblemPool) (route : List PoolTrade) →
     AllByRecursion (IsTrade pools) route →
-    AllByRecursion (λ (r : Trade).
+    AllByRecursion (λ (r : PoolTrade).
     price_of tokens prices (token0_of (pool_of pools r)) * r.out0 + price_of tokens prices (token1_of (pool_of pools r)) * r.out1
     ≤ price_of tokens prices (token0_of (pool_of pools r)) * r.in0 + price_of tokens prices (token1_of (pool_of pools r)) * r.in1
     + get_or (map (pool_worth tokens prices) pools) r.place 0) route
@@ -62,8 +63,8 @@ trades_covered tokens prices pools (r ∷ route) trades =
     let covered = worth_covers (fee_of (pool_of pools r)) (price_of tokens prices (token0_of (pool_of pools r))) (price_of tokens prices (token1_of (pool_of pools r))) (pool_of pools r).r0 (pool_of pools r).r1 r.in0 r.in1 r.out0 r.out1 (omega (arith, fee_range (fee_of (pool_of pools r)) (fee_of-is (pool_of pools r)))) trade.within0 trade.within1 trade.admitted in
     (rw worth covered, trades_covered tokens prices pools route trades.1)
 
-places_within : (tokens : List Name) (prices : List ℕ) (pools : List ProblemPool) (route : List Trade) → AllByRecursion (IsTrade pools) route →
-    AllByRecursion (λ (r : Trade). r.place < length (map (pool_worth tokens prices) pools)) route
+places_within : (tokens : List Name) (prices : List ℕ) (pools : List ProblemPool) (route : List PoolTrade) → AllByRecursion (IsTrade pools) route →
+    AllByRecursion (λ (r : PoolTrade). r.place < length (map (pool_worth tokens prices) pools)) route
 places_within tokens prices pools [] trades = tt
 places_within tokens prices pools (r ∷ route) trades = (rw length-map trades.0.there, places_within tokens prices pools route trades.1)
 
@@ -98,24 +99,24 @@ given_value tokens prices once (part ∷ parts) rising there =
     let whole = sum_by-cons (part_value tokens prices) part parts in
     omega arith
 
-pub no_route_beats_bound : (problem : OpenView) (prices : List ℕ) (route : List Trade) →
+pub no_route_beats_bound : (problem : OpenView) (prices : List ℕ) (route : List PoolTrade) →
     IsOpenProblem problem → length prices ≡ length problem.tokens → ArePrices prices → IsRoute problem route →
     delivered_by problem route ≤ bound_of problem prices
 no_route_beats_bound problem prices route sound as_many ranges is_route =
     let price : Name → ℕ = price_of problem.tokens prices in
     let once = once_from_pairs problem.tokens (once_tokens problem sound) in
     let trades = recursion_from_All (IsTrade problem.pools) route is_route.trades in
-    let values = delivered-le bytes_eq bytes_eq-Decides price (given problem)
-    (λ (r : Trade). token0_of (pool_of problem.pools r)) (λ (r : Trade). token1_of (pool_of problem.pools r))
-    (λ (r : Trade). r.in0) (λ (r : Trade). r.in1) (λ (r : Trade). r.out0) (λ (r : Trade). r.out1)
-    (λ (r : Trade). get_or (map (pool_worth problem.tokens prices) problem.pools) r.place 0)
+    let values = delivered-le bytes_eq bytes_eq-Decides price (amount_given problem)
+    (λ (r : PoolTrade). token0_of (pool_of problem.pools r)) (λ (r : PoolTrade). token1_of (pool_of problem.pools r))
+    (λ (r : PoolTrade). r.in0) (λ (r : PoolTrade). r.in1) (λ (r : PoolTrade). r.out0) (λ (r : PoolTrade). r.out1)
+    (λ (r : PoolTrade). get_or (map (pool_worth problem.tokens prices) problem.pools) r.place 0)
     problem.t problem.tokens route
     once (in_from_place problem.tokens problem.t (target_there problem sound))
     (trade_tokens_in problem.tokens problem.pools route (tokens_there problem sound) trades)
     (trades_covered problem.tokens prices problem.pools route trades)
     is_route.covers in
     let gifts = given_value problem.tokens prices once problem.parts sound.parts.rising (parts_there problem sound) in
-    let worths = sum_of_places-le (λ (r : Trade). r.place) (map (pool_worth problem.tokens prices) problem.pools) route (once_places (λ (r : Trade). r.place) route is_route.once) (places_within problem.tokens prices problem.pools route trades) in
+    let worths = sum_of_places-le (λ (r : PoolTrade). r.place) (map (pool_worth problem.tokens prices) problem.pools) route (once_places (λ (r : PoolTrade). r.place) route is_route.once) (places_within problem.tokens prices problem.pools route trades) in
     let summed = sum-map (pool_worth problem.tokens prices) problem.pools in
     let priced : 0 < price problem.t = (ranges (token_place problem.tokens problem.t) 0 (omega (arith, target_there problem sound))).0 in
     le-div _ _ _ priced (omega arith)

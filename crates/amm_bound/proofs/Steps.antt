@@ -7,7 +7,8 @@ use Rattle.std.proofs.lemmas.List.{get_or-map}
 use Rattle.amm_model.specs.declared.problem.Part.{Part}
 use Rattle.amm_model.specs.declared.problem.ProblemPool.{ProblemPool}
 use Rattle.amm_model.specs.declared.problem.TokenPlaces.{TokenPlaces}
-use Rattle.amm_model.specs.Routing.{Name, OpenView, IsOpenProblem, ArePrices, token_place, part_place, places_of, fee_of}
+use Rattle.amm_model.specs.Routing.{OpenView, IsOpenProblem, ArePrices, token_place, part_place, places_of, fee_of}
+use Rattle.amm_names.specs.Names.{Name}
 use Rattle.amm_model.proofs.Problems.{no_part, parts_there}
 use Rattle.amm_model.specs.Bound.{price_of, part_value, pool_worth, worth_of}
 

@@ -6,7 +6,7 @@
 #![tactic(auto)]
 
 ghost use Rattle.std.specs.Prelude.{◌≡◌, ℕ, List, ◌+◌, ◌*◌, ◌/◌, ◌<◌, ◌≤◌, ◌^◌, length, slice_index, sum_by, map, []};
-ghost use Rattle.amm_model.specs.Routing.{ArePrices, HasReserves, IsOpenProblem, IsProblem, IsRoute, OpenView, ProblemView, Trade, delivered_by, fee_of, given, opened};
+ghost use Rattle.amm_model.specs.Routing.{ArePrices, HasReserves, IsOpenProblem, IsProblem, IsRoute, OpenView, ProblemView, PoolTrade, delivered_by, fee_of, amount_given, open_view};
 ghost use Rattle.amm_model.specs.Legs.{AreLegs, after_legs, trade_of};
 ghost use Rattle.amm_model.specs.declared.route.Leg as leg_view;
 ghost use Rattle.amm_model.specs.Swap.{IsFee};
@@ -57,8 +57,8 @@ fn margin(weight: u128, a: u128, b: u128) -> u128
 /// each token of the problem, in the order of its tokens. The answer may be above 64 bits.
 pub fn bound(problem: &Problem, prices: &Prices) -> u128
     requires { length prices.now ≡ length problem.now.tokens }
-    ensures value { result ≡ bound_of (opened problem.now) prices.now }
-    ensures beats { (route : List Trade) → IsRoute (opened problem.now) route → delivered_by (opened problem.now) route ≤ result }
+    ensures value { result ≡ bound_of (open_view problem.now) prices.now }
+    ensures beats { (route : List PoolTrade) → IsRoute (open_view problem.now) route → delivered_by (open_view problem.now) route ≤ result }
     ensures below { result < 2 ^ 108 }
 {
     open_bound(problem.as_open(), prices)
@@ -68,7 +68,7 @@ pub fn bound(problem: &Problem, prices: &Prices) -> u128
 pub fn open_bound(problem: &OpenProblem, prices: &Prices) -> u128
     requires { length prices.now ≡ length problem.now.tokens }
     ensures value { result ≡ bound_of problem.now prices.now }
-    ensures beats { (route : List Trade) → IsRoute problem.now route → delivered_by problem.now route ≤ result }
+    ensures beats { (route : List PoolTrade) → IsRoute problem.now route → delivered_by problem.now route ≤ result }
     ensures below { result < 2 ^ 108 }
 {
     let list = prices.as_slice();
@@ -128,14 +128,14 @@ pub fn worth_at(pool: &ProblemPool, places: TokenPlaces, prices: &[u64]) -> u128
 
 /// No route delivers more than the bound, at any prices of any problem.
 pub fn no_route_beats()
-    ensures { (problem : ProblemView) (prices : List ℕ) (route : List Trade) →
-        IsProblem problem → length prices ≡ length problem.tokens → ArePrices prices → IsRoute (opened problem) route →
-        delivered_by (opened problem) route ≤ bound_of (opened problem) prices }
+    ensures { (problem : ProblemView) (prices : List ℕ) (route : List PoolTrade) →
+        IsProblem problem → length prices ≡ length problem.tokens → ArePrices prices → IsRoute (open_view problem) route →
+        delivered_by (open_view problem) route ≤ bound_of (open_view problem) prices }
 {}
 
 /// The same of problems of any parts.
 pub fn no_open_route_beats()
-    ensures { (problem : OpenView) (prices : List ℕ) (route : List Trade) →
+    ensures { (problem : OpenView) (prices : List ℕ) (route : List PoolTrade) →
         IsOpenProblem problem → length prices ≡ length problem.tokens → ArePrices prices → IsRoute problem route →
         delivered_by problem route ≤ bound_of problem prices }
 {}
@@ -143,11 +143,11 @@ pub fn no_open_route_beats()
 /// A leg-by-leg route is, leg for trade, a route that delivers the same.
 pub fn legs_are_a_route()
     ensures route { (problem : OpenView) (legs : List leg_view.Leg) →
-        IsOpenProblem problem → AreLegs problem.pools [] (given problem) legs →
+        IsOpenProblem problem → AreLegs problem.pools [] (amount_given problem) legs →
         IsRoute problem (map trade_of legs) }
     ensures delivers { (problem : OpenView) (legs : List leg_view.Leg) →
-        IsOpenProblem problem → AreLegs problem.pools [] (given problem) legs →
-        delivered_by problem (map trade_of legs) ≡ after_legs problem.pools (given problem) legs problem.t }
+        IsOpenProblem problem → AreLegs problem.pools [] (amount_given problem) legs →
+        delivered_by problem (map trade_of legs) ≡ after_legs problem.pools (amount_given problem) legs problem.t }
 {}
 
 #[cfg(test)]

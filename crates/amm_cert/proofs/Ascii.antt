@@ -5,8 +5,7 @@ use Rattle.std.proofs.lemmas.Bool.Decides.{nat_tests}
 use Rattle.std.specs.Cmp.{first_so, second_so}
 use Rattle.std.specs.List.{list_all}
 use Rattle.std.specs.Str.{IsAscii, IsUtf8}
-use Rattle.std.proofs.lemmas.Str.{IsUtf8-from_ascii}
-use Rattle.std.proofs.lemmas.Str.{IsUtf8-append}
+use Rattle.std.proofs.lemmas.Str.{IsUtf8-from_ascii, IsUtf8-append}
 use Rattle.amm_names.specs.Pools.{pool_spelling, fee_spelling, is_pool_name, pool_token0, pool_token1, pool_fee}
 use Rattle.amm_names.proofs.Spelling.{IsPool, fee_cases, parts_spell, parts_are_pool}
 use Rattle.amm_names.specs.Names.{is_upper, is_digit, is_token_name}

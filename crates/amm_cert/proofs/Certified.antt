@@ -8,14 +8,14 @@ use Rattle.json.proofs.Printed.Utf8.{IsUtf8-are_ascii}
 use Rattle.serde_json.specs.Data.{Data, string, depth, items_depth}
 use Rattle.serde_json.specs.View.{items_of}
 use Rattle.serde_json.specs.Written.{compact_text}
-use Rattle.amm_names.specs.Names.{is_token_name}
+use Rattle.amm_names.specs.Names.{is_token_name, Name}
 use Rattle.amm_names.specs.Pools.{is_pool_name}
 use Rattle.amm_names.proofs.Spelling.{parts_are_pool}
 use Rattle.amm_model.specs.declared.problem.ProblemPool.{ProblemPool}
 use Rattle.amm_model.specs.declared.route.Leg.{Leg}
 use Rattle.amm_model.specs.declared.route.Quote.{Quote}
 use Rattle.amm_model.specs.Json.{list, whole, wide}
-use Rattle.amm_model.specs.Routing.{Name, ProblemView, IsProblem, no_pool, one_part, token0_of, token1_of, tokens_of_pools, tokens_named}
+use Rattle.amm_model.specs.Routing.{ProblemView, IsProblem, no_pool, one_part, token0_of, token1_of, tokens_of_pools, tokens_named}
 use Rattle.amm_model.proofs.Problems.{no_part}
 use Rattle.amm_model.specs.Legs.{leg_pool, token_in}
 use Rattle.amm_model.specs.Certificate.{pool_value, price_value, leg_value, prices_value, legs_value, versioned_value, certificate_text, IsVersionFor, IsWritable, IsCertifiable, IsCertificateOf}

@@ -13,7 +13,7 @@ use Rattle.amm_names.specs.Pools.{is_pool_name}
 use Rattle.amm_model.specs.declared.fault.Refusal.{Refusal}
 use Rattle.amm_model.specs.declared.fault.Refusal.TheVariants.{BadCommand}
 use Rattle.amm_model.specs.Outcome.{◌>>=◌}
-use Rattle.amm_model.specs.Forms.{as_text, as_list, as_whole, as_amount, as_token, as_pool, fitting}
+use Rattle.amm_model.specs.Forms.{as_text, as_list, as_whole, as_amount, as_token, as_pool, value_if}
 use Rattle.amm_model.specs.declared.limits.TheConstants.{AMOUNT_LIMIT}
 use Rattle.amm_model.specs.Json.{each, elements, list, whole, wide}
 use Rattle.amm_model.proofs.Guards.{given, same_answer, was_some}
@@ -63,11 +63,11 @@ unfolding as_unsigned
 unsigned-of n = refl
 
 -- what was fitting passed the test
-pub passed : {A : Type 0} (test : Bool) (x made : A) → fitting test x ≡ Ok made → (test ≡ true) × (x ≡ made)
+pub passed : {A : Type 0} (test : Bool) (x made : A) → value_if test x ≡ Ok made → (test ≡ true) × (x ≡ made)
 passed true x made is = (refl, same_answer x made is)
 passed false x made is = cc
 
-pub fits : {A : Type 0} (test : Bool) (x : A) → test ≡ true → fitting test x ≡ Ok x
+pub fits : {A : Type 0} (test : Bool) (x : A) → test ≡ true → value_if test x ≡ Ok x
 fits true x e = refl
 fits false x e = cc
 
@@ -85,7 +85,7 @@ pub amount-of : (n : ℕ) → n ≤ AMOUNT_LIMIT → as_amount (whole n) ≡ Ok 
 unfolding as_amount
 amount-of n le = fits (nat_le n AMOUNT_LIMIT) n (amount_passes n le)
 
-named-is : (d : Data) (test : List ℕ → Bool) (s : List ℕ) → (as_text d >>= λ x. fitting (test x) x) ≡ Ok s → d ≡ string s
+named-is : (d : Data) (test : List ℕ → Bool) (s : List ℕ) → (as_text d >>= λ x. value_if (test x) x) ≡ Ok s → d ≡ string s
 named-is d test s e =
     let first = given (as_text d) _ s e in
     let both = passed (test first.value) first.value s first.after in

@@ -15,7 +15,7 @@ use Rattle.amm_model.specs.declared.fault.Refusal.TheVariants.{BadCommand}
 use Rattle.amm_model.specs.declared.problem.ProblemPool.{ProblemPool}
 use Rattle.amm_model.specs.declared.route.Leg.{Leg}
 use Rattle.amm_model.specs.Outcome.{◌>>=◌}
-use Rattle.amm_model.specs.Forms.{as_text, as_list, as_amount, as_pool, fitting}
+use Rattle.amm_model.specs.Forms.{as_text, as_list, as_amount, as_pool, value_if}
 use Rattle.amm_model.specs.declared.limits.TheConstants.{AMOUNT_LIMIT}
 use Rattle.amm_model.specs.Json.{each, list, whole}
 use Rattle.amm_model.specs.Routing.{ArePrices, IsBefore, no_pool, token0_of, token1_of}
@@ -160,9 +160,9 @@ prices_row-of tokens ps same = rw (as_many _ _ (priced tokens ps same)) (each_pr
 pub prices-of : (tokens : List (List ℕ)) (ps : List ℕ) → length ps ≡ length tokens → ArePrices ps → as_prices tokens (list (map price_value (zip tokens ps))) ≡ Ok ps
 unfolding as_prices
 prices-of tokens ps same fit =
-    let next : List Data → Result (List ℕ) Refusal = λ ds. prices_row tokens ds >>= λ prices. fitting (list_all is_price prices) prices in
+    let next : List Data → Result (List ℕ) Refusal = λ ds. prices_row tokens ds >>= λ prices. value_if (list_all is_price prices) prices in
     ap (λ o. o >>= next) (list-of (map price_value (zip tokens ps)))
-    ∙ (ap (λ o. o >>= λ prices. fitting (list_all is_price prices) prices) (prices_row-of tokens ps same) ∙ fits (list_all is_price ps) ps (prices_pass ps fit))
+    ∙ (ap (λ o. o >>= λ prices. value_if (list_all is_price prices) prices) (prices_row-of tokens ps same) ∙ fits (list_all is_price ps) ps (prices_pass ps fit))
 
 -- ---- legs
 

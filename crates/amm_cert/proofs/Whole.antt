@@ -12,7 +12,8 @@ use Rattle.amm_model.specs.declared.route.Quote.{Quote}
 use Rattle.amm_model.specs.Outcome.{Fails, Gives}
 use Rattle.amm_model.specs.Forms.{as_token}
 use Rattle.amm_model.specs.Json.{list, whole, wide}
-use Rattle.amm_model.specs.Routing.{Name, ProblemView, AreOpenParts, AreParts, ArePrices, IsProblem, IsProblemOf, one_part}
+use Rattle.amm_model.specs.Routing.{ProblemView, AreOpenParts, AreParts, ArePrices, IsProblem, IsProblemOf, one_part}
+use Rattle.amm_names.specs.Names.{Name}
 use Rattle.amm_model.specs.Certificate.{pool_value, prices_value, legs_value, IsVersionFor, IsWritable, IsCertifiable, IsValueOf}
 use Rattle.amm_model.proofs.Guards.{given, same_answer}
 use Rattle.amm_model.proofs.Problems.{no_part, one_problem, tokens_differ}

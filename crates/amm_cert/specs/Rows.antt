@@ -4,13 +4,14 @@ use Rattle.std.specs.Str.{bytes_eq}
 use Rattle.std.specs.Str.Parse.{digits_value}
 use Rattle.std.specs.List.{position_or_len, list_all}
 use Rattle.serde_json.specs.Data.{Data}
+use Rattle.amm_names.specs.Names.{Name}
 use Rattle.amm_model.specs.declared.fault.Refusal.{Refusal}
 use Rattle.amm_model.specs.declared.fault.Refusal.TheVariants.{BadCommand}
 use Rattle.amm_model.specs.declared.problem.ProblemPool.{ProblemPool}
 use Rattle.amm_model.specs.declared.route.Leg.{Leg}
 use Rattle.amm_model.specs.declared.route.Quote.{Quote}
 use Rattle.amm_model.specs.Outcome.{◌>>=◌}
-use Rattle.amm_model.specs.Forms.{as_text, as_list, as_whole, as_amount, as_token, as_pool, fitting}
+use Rattle.amm_model.specs.Forms.{as_text, as_list, as_whole, as_amount, as_token, as_pool, value_if}
 use Rattle.amm_model.specs.Json.{each}
 use Rattle.amm_model.specs.Routing.{ProblemView, no_pool, token0_of, token1_of}
 use Rattle.amm_cert.specs.declared.reader.Head.{Head}
@@ -33,7 +34,7 @@ as_wide d = do
 unfoldable pub as_title : Data → Result (List ℕ) Refusal
 as_title d = do
   text ← as_text d
-  fitting (bytes_eq text (codes "amm-split-certificate")) text
+  value_if (bytes_eq text (codes "amm-split-certificate")) text
 
 abbrev pub heading_of : (title version s t d : Data) → Result Head Refusal
 heading_of title version s t d = do
@@ -72,20 +73,20 @@ as_problem_pools d = do
 -- ---- the prices
 
 -- the price of this token
-abbrev pub price_row : List ℕ → List Data → Result ℕ Refusal
+abbrev pub price_row : Name → List Data → Result ℕ Refusal
 price_row token (name ∷ n ∷ []) = do
   text ← as_text name
   price ← as_unsigned n
-  fitting (bytes_eq text token) price
+  value_if (bytes_eq text token) price
 price_row token _ = Err BadCommand
 
-unfoldable pub as_price : List ℕ → Data → Result ℕ Refusal
+unfoldable pub as_price : Name → Data → Result ℕ Refusal
 as_price token d = do
   ds ← as_list d
   price_row token ds
 
 -- a price for each of the tokens
-unfoldable pub each_price : List (List ℕ) → List Data → Result (List ℕ) Refusal
+unfoldable pub each_price : List Name → List Data → Result (List ℕ) Refusal
 each_price [] [] = Ok []
 each_price (token ∷ tokens) (d ∷ ds) = do
   price ← as_price token d
@@ -96,27 +97,27 @@ each_price _ _ = Err BadCommand
 abbrev pub is_price : ℕ → Bool
 is_price price = nat_le 1 price && nat_lt price (2 ^ 40)
 
-abbrev pub prices_row : List (List ℕ) → List Data → Result (List ℕ) Refusal
+abbrev pub prices_row : List Name → List Data → Result (List ℕ) Refusal
 prices_row tokens ds = if length ds == length tokens then each_price tokens ds else Err BadCommand
 
-unfoldable pub as_prices : List (List ℕ) → Data → Result (List ℕ) Refusal
+unfoldable pub as_prices : List Name → Data → Result (List ℕ) Refusal
 as_prices tokens d = do
   ds ← as_list d
   prices ← prices_row tokens ds
-  fitting (list_all is_price prices) prices
+  value_if (list_all is_price prices) prices
 
 -- ---- the legs
 
 -- which token of a pool this is: its token 0 or its token 1
-abbrev pub side_of : ProblemPool → List ℕ → Result Bool Refusal
+abbrev pub side_of : ProblemPool → Name → Result Bool Refusal
 side_of pool token = if bytes_eq token (token0_of pool) then Ok true else (if bytes_eq token (token1_of pool) then Ok false else Err BadCommand)
 
 -- where the pool of this name stands
-abbrev pub pool_place : List ProblemPool → List ℕ → ℕ
+abbrev pub pool_place : List ProblemPool → Name → ℕ
 pool_place pools name = position_or_len (λ (pool : ProblemPool). bytes_eq name pool.name) pools
 
-abbrev pub place_of : List ProblemPool → List ℕ → Result ℕ Refusal
-place_of pools name = fitting (nat_lt (pool_place pools name) (length pools)) (pool_place pools name)
+abbrev pub place_of : List ProblemPool → Name → Result ℕ Refusal
+place_of pools name = value_if (nat_lt (pool_place pools name) (length pools)) (pool_place pools name)
 
 abbrev pub leg_row : List ProblemPool → List Data → Result Leg Refusal
 leg_row pools (name ∷ token ∷ m ∷ n ∷ []) = do

@@ -6,6 +6,7 @@
 //! the same quote. Nothing here asks whether a quote is right: that is the work of `amm_check`.
 #![tactic(auto)]
 
+mod certificate_writer;
 mod form;
 pub mod law;
 pub mod quote;
@@ -13,7 +14,6 @@ mod reader;
 mod row;
 #[cfg(test)]
 mod tests;
-mod writer;
 
+pub use certificate_writer::{put_certificate, write};
 pub use reader::read;
-pub use writer::{put_certificate, write};

@@ -1,7 +1,7 @@
 -- What holds of verdicts.
 use Rattle.std.proofs.Common.{◌≡◌, ◌≤◌, List, length, refl, subst}
 use Rattle.amm_model.specs.declared.route.Quote.{Quote}
-use Rattle.amm_model.specs.Routing.{ArePrices, IsProblem, IsRoute, Trade, delivered_by, opened}
+use Rattle.amm_model.specs.Routing.{ArePrices, IsProblem, IsRoute, PoolTrade, delivered_by, open_view}
 use Rattle.amm_bound.proofs.Law.{no_route_beats_bound}
 use Rattle.amm_check.specs.Verdicts.{IsVerdict}
 use Rattle.amm_check.specs.declared.verdict.Verdict.{Verdict}
@@ -26,6 +26,6 @@ one_verdict quote BadBound BadDelivered p q = absurd (q.1 p.1)
 one_verdict quote BadBound BadBound p q = refl
 
 pub unbeaten : (quote : Quote) → IsProblem quote.problem → ArePrices quote.prices → length quote.prices ≡ length quote.problem.tokens →
-    IsVerdict quote Yes → (route : List Trade) → IsRoute (opened quote.problem) route → delivered_by (opened quote.problem) route ≤ quote.bound
+    IsVerdict quote Yes → (route : List PoolTrade) → IsRoute (open_view quote.problem) route → delivered_by (open_view quote.problem) route ≤ quote.bound
 unbeaten quote sound ranges as_many right route is_route =
-    subst (λ bound. delivered_by (opened quote.problem) route ≤ bound) right.2 (no_route_beats_bound (opened quote.problem) quote.prices route sound as_many ranges is_route)
+    subst (λ bound. delivered_by (open_view quote.problem) route ≤ bound) right.2 (no_route_beats_bound (open_view quote.problem) quote.prices route sound as_many ranges is_route)

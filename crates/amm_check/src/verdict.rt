@@ -1,6 +1,6 @@
 //! What is found of a quote, and how.
 ghost use Rattle.std.specs.Prelude.{◌≡◌, ◌≤◌, List, length};
-ghost use Rattle.amm_model.specs.Routing.{IsRoute, Trade, delivered_by, opened};
+ghost use Rattle.amm_model.specs.Routing.{IsRoute, PoolTrade, delivered_by, open_view};
 ghost use Rattle.amm_check.specs.Verdicts.{IsVerdict};
 ghost use Rattle.amm_check.specs.declared.verdict.Verdict.TheVariants as verdicts;
 
@@ -26,7 +26,7 @@ pub enum Verdict {
 pub fn check(quote: &Quote) -> Verdict
     requires { length quote.now.prices ≡ length quote.now.problem.tokens }
     ensures verdict { IsVerdict quote.now result }
-    ensures beats { result ≡ verdicts.Yes → (route : List Trade) → IsRoute (opened quote.now.problem) route → delivered_by (opened quote.now.problem) route ≤ quote.now.bound }
+    ensures beats { result ≡ verdicts.Yes → (route : List PoolTrade) → IsRoute (open_view quote.now.problem) route → delivered_by (open_view quote.now.problem) route ≤ quote.now.bound }
 {
     match legs_delivered(&quote.problem, quote.route.legs.as_slice()) {
         None => Verdict::BadRoute,

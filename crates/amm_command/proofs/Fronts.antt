@@ -15,9 +15,9 @@ use Rattle.json.specs.Word.{ends_word}
 use Rattle.json.proofs.Printed.Strings.{content-escape, lex-escape}
 use Rattle.json.proofs.Printed.Numbers.{lex-number}
 use Rattle.json.proofs.Printed.Decimals.{IsNumber-decimal}
-use Rattle.amm_command.specs.Spelled.{lexed, is_blank}
+use Rattle.amm_command.specs.Spelled.{lexemes_of, is_blank}
 
-string_lexed : (s r : List ℕ) → escape s ≡ s → lexed (34 ∷ (s ++ 34 ∷ r)) ≡ token (tokens.string s) ∷ lexed r
+string_lexed : (s r : List ℕ) → escape s ≡ s → lexemes_of (34 ∷ (s ++ 34 ∷ r)) ≡ token (tokens.string s) ∷ lexemes_of r
 unfolding lex
 string_lexed s r h =
     let same : s ++ 34 ∷ r ≡ escape s ++ 34 ∷ r = ap (λ t. t ++ 34 ∷ r) (sym h) in
@@ -30,18 +30,18 @@ split_at (x ∷ xs) (suc n) y lt is = ap (λ t. x ∷ t) (split_at xs n y (omega
 
 -- a quotation mark, and the bytes up to the next one, where none of these needs an escape
 pub text_at : (xs inside : List ℕ) (n : ℕ) → xs ≡ 34 ∷ inside → position (λ b. b == 34) inside ≡ Some n → escape (take n inside) ≡ take n inside →
-    lexed xs ≡ token (tokens.string (take n inside)) ∷ lexed (take (length inside - (n + 1)) (drop (n + 1) inside))
+    lexemes_of xs ≡ token (tokens.string (take n inside)) ∷ lexemes_of (take (length inside - (n + 1)) (drop (n + 1) inside))
 text_at xs inside n is at same =
     let there = position-Some (λ b. b == 34) inside n 0 at in
     let quote : get_or inside n 0 ≡ 34 = eqb-true (get_or inside n 0) 34 there.1 in
     rw (is, take_rest inside (n + 1), add-one n)
-    (ap (λ t. lexed (34 ∷ t)) (split_at inside n 34 there.0 quote) ∙ string_lexed (take n inside) (drop (suc n) inside) same)
+    (ap (λ t. lexemes_of (34 ∷ t)) (split_at inside n 34 there.0 quote) ∙ string_lexed (take n inside) (drop (suc n) inside) same)
 
 pub number_at : (xs : List ℕ) (n end : ℕ) → take end xs ≡ decimal n → n < 2 ^ 64 → ends_word (take (length xs - end) (drop end xs)) ≡ true →
-    lexed xs ≡ token (tokens.number (decimal n)) ∷ lexed (take (length xs - end) (drop end xs))
+    lexemes_of xs ≡ token (tokens.number (decimal n)) ∷ lexemes_of (take (length xs - end) (drop end xs))
 number_at xs n end is small ended =
     let left = take_rest xs end in
-    rw left (ap lexed (sym (take-append-drop end xs) ∙ ap (λ s. s ++ drop end xs) is)
+    rw left (ap lexemes_of (sym (take-append-drop end xs) ∙ ap (λ s. s ++ drop end xs) is)
     ∙ lex-number (decimal n) (drop end xs) (IsNumber-decimal n small) (ap ends_word (sym left) ∙ ended))
 
 -- one digit more
@@ -66,17 +66,17 @@ blank_cases b h = by (b == 32) (b == 9) refl refl h
     by false true p q k = inr (inl (eqb-true b 9 q))
     by false false p q k = inr (inr (eqb-true b 13 k))
 
-blank_before : (b : ℕ) (bs : List ℕ) → (b ≡ 32) ⊎ (b ≡ 9) ⊎ (b ≡ 13) → lexed bs ≡ [] → lexed (b ∷ bs) ≡ []
+blank_before : (b : ℕ) (bs : List ℕ) → (b ≡ 32) ⊎ (b ≡ 9) ⊎ (b ≡ 13) → lexemes_of bs ≡ [] → lexemes_of (b ∷ bs) ≡ []
 unfolding lex
 blank_before b bs (inl e) rest = rw e rest
 blank_before b bs (inr (inl e)) rest = rw e rest
 blank_before b bs (inr (inr e)) rest = rw e rest
 
-blanks_lexed : (bs : List ℕ) → list_all is_blank bs ≡ true → lexed bs ≡ []
+blanks_lexed : (bs : List ℕ) → list_all is_blank bs ≡ true → lexemes_of bs ≡ []
 unfolding lex
 blanks_lexed [] h = refl
 blanks_lexed (b ∷ bs) h = blank_before b bs (blank_cases b (first_so (is_blank b) (list_all is_blank bs) h)) (blanks_lexed bs (second_so (is_blank b) (list_all is_blank bs) h))
 
-pub at_end : (found : Bool) (bs : List ℕ) → found ≡ list_all is_blank bs → OnTrue found (lexed bs ≡ [])
+pub at_end : (found : Bool) (bs : List ℕ) → found ≡ list_all is_blank bs → OnTrue found (lexemes_of bs ≡ [])
 at_end true bs is = blanks_lexed bs (sym is)
 at_end false bs is = tt

@@ -10,10 +10,10 @@ use Rattle.serde_json.specs.Data.{Data, string, depth}
 use Rattle.serde_json.specs.View.{items_of}
 use Rattle.amm_names.specs.Pools.{is_fee}
 use Rattle.amm_names.proofs.Spelling.{fee_cases}
-use Rattle.amm_model.specs.declared.path.RoutePath.{RoutePath}
+use Rattle.amm_model.specs.declared.route_path.RoutePath.{RoutePath}
 use Rattle.amm_model.specs.Outcome.{◌>>=◌}
 use Rattle.amm_model.specs.Json.{whole, elements}
-use Rattle.amm_model.specs.Forms.{fitting, as_token, as_fee, Hop, hops, path_along, as_path}
+use Rattle.amm_model.specs.Forms.{value_if, as_token, as_fee, Hop, hops, path_along, as_path}
 use Rattle.amm_command.specs.Spelled.{spelled, next_spelled, behind, IsPlain, ArePlain, inner_depth}
 use Rattle.amm_command.specs.Rows.{fee_values, hop_value, hop_values, tokens_behind, path_value}
 use Rattle.amm_command.proofs.Lists.{behind-append, next-behind, items_plain, plain-append, depth-append, elements-items_of}
@@ -140,7 +140,7 @@ small_fee f is = by (is_fee f) refl is
     from (inr (inl e)) = omega arith
     from (inr (inr e)) = omega arith
 
-    by : (b : Bool) → is_fee f ≡ b → fitting b f ≡ Ok f → f < 2 ^ 64
+    by : (b : Bool) → is_fee f ≡ b → value_if b f ≡ Ok f → f < 2 ^ 64
     by true e h = from (fee_cases f e)
     by false e h = cc
 

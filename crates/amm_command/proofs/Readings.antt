@@ -11,7 +11,7 @@ use Rattle.serde_json.specs.Data.{Data, null, boolean, number, string, array, ob
 use Rattle.serde_json.specs.Read.{read, of_json, of_items, number_of}
 use Rattle.serde_json.specs.Written.{outline, items_outline}
 use Rattle.serde_json.proofs.Numbers.{number_of-decimal}
-use Rattle.amm_command.specs.Spelled.{lexed, spelled, first_spelled, next_spelled, IsPlain, ItemsArePlain}
+use Rattle.amm_command.specs.Spelled.{lexemes_of, spelled, first_spelled, next_spelled, IsPlain, ItemsArePlain}
 
 no_colon : (ds : Items) (ls : List Lexeme) → begins_colon (next_spelled ds ++ ls) ≡ false
 no_colon no_items ls = refl
@@ -80,7 +80,7 @@ mutual
   items_depth-outline (item d ds) h = ap₂ max (depth-outline d h.0) (items_depth-outline ds h.1)
 
 -- a text that is made of a value's parts, and of nothing else, reads as the value
-pub read_spelled : (bytes : List ℕ) (d : Data) → IsPlain d → depth d ≤ 127 → lexed bytes ≡ spelled d → read bytes ≡ Some d
+pub read_spelled : (bytes : List ℕ) (d : Data) → IsPlain d → depth d ≤ 127 → lexemes_of bytes ≡ spelled d → read bytes ≡ Some d
 unfolding punctuate
 read_spelled bytes d plain shallow is =
     let j : json.Json = outline d in

@@ -5,7 +5,7 @@ use Rattle.amm_names.specs.declared.holder.Asset.{Asset}
 use Rattle.amm_names.specs.declared.holder.Asset.TheVariants as assets
 use Rattle.amm_names.specs.declared.holder.Holder.{Holder}
 use Rattle.amm_names.specs.declared.holder.Holder.TheVariants as holders
-use Rattle.amm_model.specs.declared.path.RoutePath.{RoutePath}
+use Rattle.amm_model.specs.declared.route_path.RoutePath.{RoutePath}
 use Rattle.amm_model.specs.Json.{list, whole}
 use Rattle.amm_model.specs.CommandView as command
 use Rattle.amm_model.specs.CommandView.{CommandView, Move, Moves, no_moves, move}

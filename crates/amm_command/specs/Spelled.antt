@@ -9,8 +9,8 @@ use Rattle.serde_json.specs.View.{items_of}
 use Rattle.serde_json.specs.Written.{number_text}
 
 -- what a line is made of, from here to its end
-abbrev pub lexed : List ℕ → List Lexeme
-lexed text = lex between text
+abbrev pub lexemes_of : List ℕ → List Lexeme
+lexemes_of text = lex between text
 
 -- a space, a tab or a carriage return
 abbrev pub is_blank : ℕ → Bool

@@ -7,7 +7,6 @@
 #![tactic(auto)]
 
 mod form;
-mod line;
 mod path;
 mod plain;
 mod row;
@@ -15,5 +14,6 @@ mod step;
 mod step_row;
 #[cfg(test)]
 mod tests;
+mod whole_line;
 
-pub use line::read_line;
+pub use whole_line::read_line;

@@ -1,16 +1,16 @@
 -- The worths of pools where one token's price changed.
-use Rattle.std.proofs.Common.{◌≡◌, ◌≢◌, ℕ, ◌+◌, ◌<◌, ◌≤◌, List, length, map, arith, ap, sym, subst, ◌∙◌, get_or, set, get_or-set_other, get_or-set_same, below_more}
+use Rattle.std.proofs.Common.{◌≡◌, ◌≢◌, ℕ, ◌+◌, ◌<◌, ◌≤◌, List, length, map, arith, ap, sym, subst, ◌∙◌, get_or, set, get_or-set_other, get_or-set_same, below_more, Bool, true, false, cond, ◌-◌, ◌*◌}
 use Rattle.std.proofs.Math.ListN.{length-set, length-map}
 use Rattle.std.proofs.lemmas.List.{ext_get_or, get_or-map}
 use Rattle.amm_model.specs.declared.problem.ProblemPool.{ProblemPool}
 use Rattle.amm_model.specs.declared.problem.TokenPlaces.{TokenPlaces}
 use Rattle.std.specs.Prelude.{◌^◌}
 use Rattle.std.proofs.lemmas.List.Elements.{All-set}
-use Rattle.amm_model.specs.Routing.{Name, OpenView, IsOpenProblem, ArePrices, fee_of, token0_of, token1_of, token_place, places_of, no_pool}
+use Rattle.amm_model.specs.Routing.{OpenView, IsOpenProblem, ArePrices, fee_of, token0_of, token1_of, token_place, places_of, no_pool}
+use Rattle.amm_names.specs.Names.{Name}
 use Rattle.amm_model.specs.Bound.{pool_worth, worth_of, margin, twice_mean}
 use Rattle.amm_model.specs.Swap.{input_weight}
 use Rattle.amm_model.proofs.Problems.{tokens_there}
-use Rattle.std.proofs.Common.{Bool, true, false, cond, ◌-◌, ◌*◌}
 use Rattle.std.proofs.Math.Nat.{div-le_self, mul-le-mul_right}
 use Rattle.std.proofs.lemmas.Nat.{mul-lt}
 

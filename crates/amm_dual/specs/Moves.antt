@@ -4,7 +4,7 @@ use Rattle.std.specs.Prelude.{ℕ, ◌≡◌, ◌+◌, ◌-◌, ◌/◌, ◌%◌
 use Rattle.amm_model.specs.declared.prices.Turn.{Turn}
 use Rattle.amm_model.specs.Routing.{OpenView, ArePrices, no_pool, token0_of, token1_of, token_place}
 use Rattle.amm_model.specs.Bound.{bound_of}
-use Rattle.amm_model.specs.Settled.{moved}
+use Rattle.amm_model.specs.Settled.{prices_after}
 use Rattle.amm_dual.specs.declared.moves.Move.{Move}
 
 -- the turns of a move
@@ -40,7 +40,7 @@ move_of problem n = move_by problem (n / 64) (n % 64 / 4 + 1) (nat_le 2 (n % 4))
 -- the move is impossible, or lowers the bound by at most one part in 65536
 abbrev pub IsNoHelp : OpenView → List ℕ → Move → Type 0
 IsNoHelp problem prices move =
-    ArePrices (moved move.k prices (turns_of move)) → bound_of problem prices ≤ bound_of problem (moved move.k prices (turns_of move)) + bound_of problem prices / 65536
+    ArePrices (prices_after move.k prices (turns_of move)) → bound_of problem prices ≤ bound_of problem (prices_after move.k prices (turns_of move)) + bound_of problem prices / 65536
 
 abbrev pub NoHelpAt : OpenView → List ℕ → ℕ → Type 0
 NoHelpAt problem prices n = (move : Move) → move_of problem n ≡ Some move → IsNoHelp problem prices move
@@ -52,5 +52,5 @@ NoHelpBelow problem prices count = (n : ℕ) → n < count → NoHelpAt problem 
 pub record Helps (problem : OpenView) (prices : List ℕ) (n : ℕ) : Type 0 where
   pub step : Move
   pub is : move_of problem n ≡ Some step
-  pub possible : ArePrices (moved step.k prices (turns_of step))
-  pub lower : bound_of problem (moved step.k prices (turns_of step)) + bound_of problem prices / 65536 < bound_of problem prices
+  pub possible : ArePrices (prices_after step.k prices (turns_of step))
+  pub lower : bound_of problem (prices_after step.k prices (turns_of step)) + bound_of problem prices / 65536 < bound_of problem prices

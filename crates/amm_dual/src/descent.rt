@@ -1,8 +1,8 @@
 //! Moves the prices down to where no move helps.
 ghost use Rattle.std.specs.Prelude.{◌≡◌, ◌≢◌, ◌↔◌, ℕ, IsTrue, IfOk, IfSome, MatchOption, ◌+◌, ◌-◌, ◌*◌, ◌/◌, ◌<◌, ◌≤◌, ◌^◌, length, max, slice_index, true, false};
-ghost use Rattle.amm_model.specs.Routing.{ArePrices, opened, token_place};
+ghost use Rattle.amm_model.specs.Routing.{ArePrices, open_view, token_place};
 ghost use Rattle.amm_model.specs.Bound.{bound_of, price_of};
-ghost use Rattle.amm_model.specs.Settled.{IsSettled, moved, stepped as stepped_of, turned};
+ghost use Rattle.amm_model.specs.Settled.{IsSettled, prices_after, price_after as stepped_of, prices_after_turn};
 ghost use Rattle.amm_dual.specs.Moves.{IsNoHelp, NoHelpBelow, NoHelpAt, Helps, turns_of, move_of};
 ghost use Rattle.amm_dual.specs.Running.{after};
 
@@ -32,7 +32,7 @@ pub fn descended(alloc: Global, problem: &OpenProblem, start: &Prices) -> Result
 /// Whether the prices are settled.
 pub fn settled(alloc: Global, problem: &Problem, prices: &Prices) -> Result<bool, Memory>
     requires { length prices.now ≡ length problem.now.tokens }
-    ensures { IfOk result (λ is. IsTrue is ↔ IsSettled (opened problem.now) prices.now) }
+    ensures { IfOk result (λ is. IsTrue is ↔ IsSettled (open_view problem.now) prices.now) }
 {
     open_settled(alloc, problem.as_open(), prices)
 }
@@ -104,7 +104,7 @@ fn improve(running: &mut Running<'_>, step: Move, before: u128) -> bool
     requires before { before ≡ bound_of running.old.problem running.old.prices }
     requires below { before < 2 ^ 108 }
     ensures problem { running.new.problem ≡ running.old.problem }
-    ensures taken { result ≡ true → running.new.prices ≡ moved step.k running.old.prices (turns_of step) }
+    ensures taken { result ≡ true → running.new.prices ≡ prices_after step.k running.old.prices (turns_of step) }
     ensures ranges { ArePrices running.new.prices }
     ensures lower { result ≡ true → bound_of running.new.problem running.new.prices + bound_of running.old.problem running.old.prices / 65536 < bound_of running.old.problem running.old.prices }
     ensures kept { result ≡ false → running.new.prices ≡ running.old.prices }
@@ -128,9 +128,9 @@ fn changes_of(running: &Running<'_>, step: Move) -> Option<Changes>
     requires first { step.first.place < length running.now.prices }
     requires second { IfSome step.second (λ turn. (turn.place < length running.now.prices) × (turn.place ≢ step.first.place)) }
     requires size { step.k ≤ 16 }
-    ensures { MatchOption result (¬ ArePrices (moved step.k running.now.prices (turns_of step)))
+    ensures { MatchOption result (¬ ArePrices (prices_after step.k running.now.prices (turns_of step)))
         (λ changes. (changes.first.place < length running.now.prices) × (changes.second.place < length running.now.prices)
-        × (after running.now.prices changes ≡ moved step.k running.now.prices (turns_of step))
+        × (after running.now.prices changes ≡ prices_after step.k running.now.prices (turns_of step))
         × ArePrices (after running.now.prices changes)
         × (1 ≤ changes.first.price) × (changes.first.price < 2 ^ 40) × (1 ≤ changes.second.price) × (changes.second.price < 2 ^ 40)) }
 {

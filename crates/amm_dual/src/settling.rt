@@ -4,7 +4,7 @@
 //! at them, they are settled at once: no prices bring the bound below what a route delivers. Else
 //! the prices go down, one at a time and then by moves, until no move helps.
 ghost use Rattle.std.specs.Prelude.{◌≡◌, ◌+◌, ◌/◌, ◌≤◌, ◌^◌, IfOk, length, true};
-ghost use Rattle.amm_model.specs.Routing.{opened};
+ghost use Rattle.amm_model.specs.Routing.{open_view};
 ghost use Rattle.amm_model.specs.Bound.{price_of};
 ghost use Rattle.amm_model.specs.Settled.{IsSettled};
 
@@ -20,7 +20,7 @@ const UNIT: u64 = 0x10_0000;
 
 /// Settled prices: one for each token of the problem, 2^20 for the target.
 pub fn search(alloc: Global, problem: &Problem) -> Result<Prices, Memory>
-    ensures { IfOk result (λ prices. IsSettled (opened problem.now) prices) }
+    ensures { IfOk result (λ prices. IsSettled (open_view problem.now) prices) }
 {
     open_search(alloc, problem.as_open())
 }

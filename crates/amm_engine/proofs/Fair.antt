@@ -9,8 +9,9 @@ use Rattle.amm_model.specs.declared.line.Line.TheVariants.{Whole, Long}
 use Rattle.amm_model.specs.declared.reply.Answer.{Answer}
 use Rattle.amm_model.specs.declared.reply.Answer.TheVariants as answers
 use Rattle.amm_model.specs.declared.reply.Reply.{Reply}
-use Rattle.amm_model.specs.Outcome.{◌>>=◌}
-use Rattle.amm_model.specs.Ledger.{Ledger, Made, Outcome, list, issue, retire, set_time, pair_of}
+use Rattle.amm_model.specs.Outcome.{◌>>=◌, Made, Outcome}
+use Rattle.amm_model.specs.Ledger.{Ledger, pair_of}
+use Rattle.amm_model.specs.Postings.{list_token, issue, retire, set_time}
 use Rattle.amm_model.specs.Pools.{held0, held1, supply}
 use Rattle.amm_model.specs.Sound.{IsSound, IsAtRest}
 use Rattle.amm_model.specs.Fits.{Fits}
@@ -19,8 +20,8 @@ use Rattle.amm_model.specs.Router.{amounts_out, amounts_in}
 use Rattle.amm_model.specs.Laws.{ZeroKept, TokenTotalsKept}
 use Rattle.amm_model.specs.CommandView as command
 use Rattle.amm_model.specs.CommandView.{CommandView}
-use Rattle.amm_model.specs.Meaning.{known, deposit, withdraw, outcome_of, told, answering}
-use Rattle.amm_model.specs.Answers.{Answers, After, outcome_of_line, answered, left_by}
+use Rattle.amm_model.specs.Meaning.{known_asset, deposit, withdraw, outcome_of, ledger_with, outcome_with}
+use Rattle.amm_model.specs.Answers.{Answers, After, outcome_of_line, answer_of, ledger_after}
 use Rattle.amm_model.specs.Reading.{command_of_line}
 use Rattle.amm_model.specs.Runs.{Step, FairStep, one_reply, TotalsMoved, TotalsMovedBy}
 use Rattle.amm_model.proofs.Guards.{given, same_answer}
@@ -42,14 +43,14 @@ pub record Promised (asked : CommandView) (old new : Ledger) (answer : Answer) :
 -- what leaves the totals of tokens alone
 promised_by : (asked : CommandView) (old : Ledger) (made : Made Answer) → Keeps old made.ledger → (IsSound old → IsSound made.ledger)
     → (TokenTotalsKept old made.ledger → TotalsMoved asked made.answer old made.ledger) → IsAccepted made.answer → Promised asked old made.ledger made.answer
-promised_by asked old made keeps sound totals told =
-    record { rest = λ rest. rest_kept old made.ledger rest keeps.no_other (sound rest.sound); zero = keeps.zero; totals = totals keeps.totals; told = told }
+promised_by asked old made keeps sound totals ledger_with =
+    record { rest = λ rest. rest_kept old made.ledger rest keeps.no_other (sound rest.sound); zero = keeps.zero; totals = totals keeps.totals; told = ledger_with }
 
 deposit_promised : (old : Ledger) (user token : List ℕ) (n : ℕ) (made : Made Answer) → deposit old user token n ≡ Ok made
     → Promised (command.deposit user token n) old made.ledger made.answer
 unfolding deposit
 deposit_promised old user token n made is =
-    let first = given (list old token) _ made is in
+    let first = given (list_token old token) _ made is in
     let mid : Ledger = first.value.ledger in
     let second = given (issue mid (assets.Token token) (holders.User user) n) _ made first.after in
     let paid = issue_deposited mid token (holders.User user) n second.value second.was in
@@ -68,7 +69,7 @@ withdraw_promised : (old : Ledger) (user token : List ℕ) (n : ℕ) (made : Mad
     → Promised (command.withdraw user token n) old made.ledger made.answer
 unfolding withdraw
 withdraw_promised old user token n made is =
-    let first = given (known old (assets.Token token)) _ made is in
+    let first = given (known_asset old (assets.Token token)) _ made is in
     let second = given (retire old (assets.Token token) (holders.User user) n) _ made first.after in
     subst (λ (k : Made Answer). Promised (command.withdraw user token n) old k.ledger k.answer) (same_answer _ made second.after) (record {
       rest = λ rest. retire_rest old token user n second.value second.was rest;
@@ -79,7 +80,7 @@ withdraw_promised old user token n made is =
 
 -- a query, where it may be answered, changes nothing
 asked_only : {A : Type 0} (asked : CommandView) (old : Ledger) (first : Result A Refusal) (answer : A → Answer) (made : Made Answer)
-    → ((x : A) → TotalsMoved asked (answer x) old old) → ((x : A) → IsAccepted (answer x)) → (first >>= (λ x. told old (answer x))) ≡ Ok made
+    → ((x : A) → TotalsMoved asked (answer x) old old) → ((x : A) → IsAccepted (answer x)) → (first >>= (λ x. ledger_with old (answer x))) ≡ Ok made
     → Promised asked old made.ledger made.answer
 asked_only asked old first answer made totals accepted is =
     let found = given first _ made is in
@@ -89,7 +90,7 @@ asked_only asked old first answer made totals accepted is =
 -- what an operation that has nothing to tell leaves
 plain_promised : {A : Type 0} (asked : CommandView) (answer : Answer) (old : Ledger) (outcome : Outcome A) (made : Made Answer)
     → ((done : Made A) → outcome ≡ Ok done → Keeps old done.ledger) → ((done : Made A) → outcome ≡ Ok done → IsSound old → IsSound done.ledger)
-    → ((new : Ledger) → TokenTotalsKept old new → TotalsMoved asked answer old new) → IsAccepted answer → answering answer outcome ≡ Ok made → Promised asked old made.ledger made.answer
+    → ((new : Ledger) → TokenTotalsKept old new → TotalsMoved asked answer old new) → IsAccepted answer → outcome_with answer outcome ≡ Ok made → Promised asked old made.ledger made.answer
 plain_promised asked answer old outcome made keeps sound totals accepted is =
     let first = given outcome _ made is in
     subst (λ (k : Made Answer). Promised asked old k.ledger k.answer) (same_answer _ made first.after)
@@ -114,9 +115,9 @@ promised old (command.pool p) made fits is =
     asked_only (command.pool p) old (ok_or (pair_of old.pairs p) code.NoPair) (λ pair. answers.Pool pair (held0 old p) (held1 old p) (supply old p)) made
     (λ x token. refl) (λ x. record { accepted = λ why e. cc; written = tt }) is
 promised old (command.balance asset holder) made fits is =
-    asked_only (command.balance asset holder) old (known old asset) _ made (λ x token. refl) (λ x. record { accepted = λ why e. cc; written = tt }) is
+    asked_only (command.balance asset holder) old (known_asset old asset) _ made (λ x token. refl) (λ x. record { accepted = λ why e. cc; written = tt }) is
 promised old (command.total asset) made fits is =
-    asked_only (command.total asset) old (known old asset) _ made (λ x token. refl) (λ x. record { accepted = λ why e. cc; written = tt }) is
+    asked_only (command.total asset) old (known_asset old asset) _ made (λ x token. refl) (λ x. record { accepted = λ why e. cc; written = tt }) is
 promised old (command.act actor step) made fits is =
     let kept = step_kept step old actor made fits.0 fits.1 is in
     record { rest = kept_rest old made.ledger kept; zero = kept.zero; totals = kept.later.totals; told = step_told old actor step made is }
@@ -151,7 +152,7 @@ refused_totals (command.certificate quote) why old = λ name. refl
 refused_totals (command.pool p) why old = λ name. refl
 
 -- after an accepted line the ledger is the one that its outcome leaves
-after_accepted : (old : Ledger) (bytes : List ℕ) (answer : Answer) → ((why : Refusal) → answer ≢ answers.Refused why) → After old (Whole bytes) answer ≡ left_by old (outcome_of_line old bytes)
+after_accepted : (old : Ledger) (bytes : List ℕ) (answer : Answer) → ((why : Refusal) → answer ≢ answers.Refused why) → After old (Whole bytes) answer ≡ ledger_after old (outcome_of_line old bytes)
 unfolding After
 after_accepted old bytes (answers.Refused why) accepted = absurd (accepted why refl)
 after_accepted old bytes (answers.Deposit a b) accepted = refl
@@ -182,10 +183,10 @@ after_accepted old bytes (answers.Total a) accepted = refl
 
 -- what is kept by a line with this outcome, where its bytes were read so
 record Sides (old : Ledger) (bytes : List ℕ) (read : Result CommandView Refusal) (outcome : Outcome Answer) (answer : Answer) : Type 0 where
-  after : left_by old outcome ≡ After old (Whole bytes) answer
-  refused : (why : Refusal) → answer ≡ answers.Refused why → left_by old outcome ≡ old
-  zero : ZeroKept old (left_by old outcome)
-  totals : MatchResult read (λ asked. TotalsMoved asked answer old (left_by old outcome)) (λ _. TokenTotalsKept old (left_by old outcome))
+  after : ledger_after old outcome ≡ After old (Whole bytes) answer
+  refused : (why : Refusal) → answer ≡ answers.Refused why → ledger_after old outcome ≡ old
+  zero : ZeroKept old (ledger_after old outcome)
+  totals : MatchResult read (λ asked. TotalsMoved asked answer old (ledger_after old outcome)) (λ _. TokenTotalsKept old (ledger_after old outcome))
 
 after_refused : (old : Ledger) (bytes : List ℕ) (why : Refusal) → After old (Whole bytes) (answers.Refused why) ≡ old
 unfolding After
@@ -193,11 +194,11 @@ after_refused old bytes why = refl
 
 -- the command of a line was tried
 asked_sides : (old : Ledger) (bytes : List ℕ) (asked : CommandView) (outcome : Outcome Answer) → Fits asked → outcome_of old asked ≡ outcome → outcome_of_line old bytes ≡ outcome
-    → Sides old bytes (Ok asked) outcome (answered outcome)
+    → Sides old bytes (Ok asked) outcome (answer_of outcome)
 asked_sides old bytes asked (Ok made) fits gives line_gives =
     let k = promised old asked made fits gives in
     record {
-      after = sym (after_accepted old bytes made.answer k.told.accepted ∙ ap (left_by old) line_gives);
+      after = sym (after_accepted old bytes made.answer k.told.accepted ∙ ap (ledger_after old) line_gives);
       refused = λ why refusal. absurd (k.told.accepted why refusal);
       zero = k.zero;
       totals = k.totals;
@@ -206,14 +207,14 @@ asked_sides old bytes asked (Err why) fits gives line_gives =
     record { after = sym (after_refused old bytes why); refused = λ other refusal. refl; zero = λ q. omega arith; totals = refused_totals asked why old }
 
 fair_by : (old : Ledger) (number : ℕ) (bytes : List ℕ) (read : Result CommandView Refusal) (outcome : Outcome Answer) → command_of_line bytes ≡ read → outcome_of_line old bytes ≡ outcome
-    → Sides old bytes read outcome (answered outcome) → FairStep old number (Whole bytes) (one_reply number (answered outcome)) (left_by old outcome)
+    → Sides old bytes read outcome (answer_of outcome) → FairStep old number (Whole bytes) (one_reply number (answer_of outcome)) (ledger_after old outcome)
 unfolding Answers Step
 fair_by old number bytes read outcome read_is gives sides = record {
-  step = (answered outcome, ap answered (sym gives), refl, sides.after);
+  step = (answer_of outcome, ap answer_of (sym gives), refl, sides.after);
   refused = λ why one. sides.refused why (only_answer _ _ _ _ one);
   zero = sides.zero;
-  totals = λ other one. subst (λ (a : Answer). TotalsMovedBy (Whole bytes) a old (left_by old outcome)) (only_answer _ _ _ _ one)
-      (subst (λ (r : Result CommandView Refusal). MatchResult r (λ asked. TotalsMoved asked (answered outcome) old (left_by old outcome)) (λ _. TokenTotalsKept old (left_by old outcome))) (sym read_is) sides.totals);
+  totals = λ other one. subst (λ (a : Answer). TotalsMovedBy (Whole bytes) a old (ledger_after old outcome)) (only_answer _ _ _ _ one)
+      (subst (λ (r : Result CommandView Refusal). MatchResult r (λ asked. TotalsMoved asked (answer_of outcome) old (ledger_after old outcome)) (λ _. TokenTotalsKept old (ledger_after old outcome))) (sym read_is) sides.totals);
 }
 
 line_outcome : (old : Ledger) (bytes : List ℕ) (read : Result CommandView Refusal) → command_of_line bytes ≡ read → outcome_of_line old bytes ≡ (read >>= (λ asked. outcome_of old asked))
@@ -229,7 +230,7 @@ fair_unread old number bytes why is =
 
 -- a line whose bytes are a command is a fair step
 pub fair_asked : (old : Ledger) (number : ℕ) (bytes : List ℕ) (asked : CommandView) → command_of_line bytes ≡ Ok asked
-    → FairStep old number (Whole bytes) (one_reply number (answered (outcome_of old asked))) (left_by old (outcome_of old asked))
+    → FairStep old number (Whole bytes) (one_reply number (answer_of (outcome_of old asked))) (ledger_after old (outcome_of old asked))
 fair_asked old number bytes asked is =
     fair_by old number bytes (Ok asked) (outcome_of old asked) is (line_outcome old bytes (Ok asked) is)
     (asked_sides old bytes asked (outcome_of old asked) (reads_fitting bytes asked is) refl (line_outcome old bytes (Ok asked) is))

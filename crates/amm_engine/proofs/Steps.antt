@@ -8,14 +8,15 @@ use Rattle.amm_model.specs.declared.line.Line.TheVariants.{Blank, Whole, Long}
 use Rattle.amm_model.specs.declared.reply.Answer.{Answer}
 use Rattle.amm_model.specs.declared.reply.Answer.TheVariants.{Refused}
 use Rattle.amm_model.specs.CommandView.{CommandView}
-use Rattle.amm_model.specs.Ledger.{Ledger, Outcome}
+use Rattle.amm_model.specs.Ledger.{Ledger}
+use Rattle.amm_model.specs.Outcome.{Outcome}
 use Rattle.amm_model.specs.Meaning.{outcome_of}
-use Rattle.amm_model.specs.Answers.{answered, left_by}
+use Rattle.amm_model.specs.Answers.{answer_of, ledger_after}
 use Rattle.amm_model.specs.Reading.{command_of_line}
 use Rattle.amm_model.specs.Runs.{Step, FairStep, one_reply}
 use Rattle.amm_model.specs.ReplyText.{reply_text}
 use Rattle.amm_engine.proofs.Fair.{fair_long, fair_unread, fair_asked}
-use Rattle.amm_state.specs.Tx.{Progress}
+use Rattle.amm_state.specs.Tx.{TxView}
 use Rattle.amm_engine.specs.Commands.{AnswersCommand, Accepted, Declined}
 use Rattle.amm_engine.specs.Service.{AnswersLine}
 
@@ -46,20 +47,20 @@ pub AnswersLine-asked : (old : Ledger) (number : ℕ) (bytes : List ℕ) (asked 
     → AnswersCommand old number asked text new → AnswersLine old number (Whole bytes) text new
 AnswersLine-asked old number bytes asked text new read a =
     subst (λ (l : Ledger). AnswersLine old number (Whole bytes) text l) (sym a.left)
-    (one_line old number (Whole bytes) (answered (outcome_of old asked)) text (left_by old (outcome_of old asked)) (fair_asked old number bytes asked read) a.is)
+    (one_line old number (Whole bytes) (answer_of (outcome_of old asked)) text (ledger_after old (outcome_of old asked)) (fair_asked old number bytes asked read) a.is)
 
 -- a command that was accepted, and whose ledger is kept
-pub AnswersCommand-kept : (old : Ledger) (number : ℕ) (asked : CommandView) (text : List ℕ) (tx : Progress) (new : Ledger) → Accepted old number asked text tx → new ≡ tx.present
+pub AnswersCommand-kept : (old : Ledger) (number : ℕ) (asked : CommandView) (text : List ℕ) (tx : TxView) (new : Ledger) → Accepted old number asked text tx → new ≡ tx.present
     → AnswersCommand old number asked text new
 AnswersCommand-kept old number asked text tx new a is = record {
-  is = a.is ∙ ap (λ (o : Outcome Answer). reply_text (record { line = number; answer = answered o })) (sym a.gives);
-  left = is ∙ ap (left_by old) (sym a.gives);
+  is = a.is ∙ ap (λ (o : Outcome Answer). reply_text (record { line = number; answer = answer_of o })) (sym a.gives);
+  left = is ∙ ap (ledger_after old) (sym a.gives);
 }
 
 -- a command that was refused, and whose ledger is taken back
 pub AnswersCommand-refused : (old : Ledger) (number : ℕ) (asked : CommandView) (text : List ℕ) (new : Ledger) → Declined old number asked text → new ≡ old
     → AnswersCommand old number asked text new
 AnswersCommand-refused old number asked text new d is = record {
-  is = d.is ∙ ap (λ (o : Outcome Answer). reply_text (record { line = number; answer = answered o })) (sym d.gives);
-  left = is ∙ ap (left_by old) (sym d.gives);
+  is = d.is ∙ ap (λ (o : Outcome Answer). reply_text (record { line = number; answer = answer_of o })) (sym d.gives);
+  left = is ∙ ap (ledger_after old) (sym d.gives);
 }

@@ -6,14 +6,15 @@ use Rattle.amm_names.specs.declared.holder.Asset.{Asset}
 use Rattle.amm_model.specs.declared.fault.Refusal.{Refusal}
 use Rattle.amm_model.specs.declared.reply.Answer.{Answer}
 use Rattle.amm_model.specs.declared.reply.Answer.TheVariants as answers
-use Rattle.amm_model.specs.Outcome.{◌>>=◌}
-use Rattle.amm_model.specs.Ledger.{Ledger, Made, Outcome, transfer}
+use Rattle.amm_model.specs.Outcome.{◌>>=◌, Made, Outcome}
+use Rattle.amm_model.specs.Ledger.{Ledger}
+use Rattle.amm_model.specs.Postings.{transfer}
 use Rattle.amm_model.specs.Operations.{sync, skim, swap, mint, burn, lend, give_back}
 use Rattle.amm_model.specs.Factory.{create}
 use Rattle.amm_model.specs.Router.{add, remove, exact_in, exact_out}
 use Rattle.amm_model.specs.CommandView as view
 use Rattle.amm_model.specs.CommandView.{Move}
-use Rattle.amm_model.specs.Meaning.{known, send, reserves_told, meaning, meaning_of_all, as_answer, answering}
+use Rattle.amm_model.specs.Meaning.{known_asset, send, sync_reply, meaning, meaning_of_all, as_answer, outcome_with}
 use Rattle.amm_model.specs.ReplyText.{CanBeWritten}
 use Rattle.amm_model.proofs.Guards.{given, same_answer}
 
@@ -29,7 +30,7 @@ told_as form outcome made each is =
     subst (λ (k : Made Answer). IsAccepted k.answer) (same_answer _ made first.after) (each first.value.answer)
 
 -- an operation that has nothing to tell
-pub told_plain : {A : Type 0} (answer : Answer) (outcome : Outcome A) (made : Made Answer) → IsAccepted answer → answering answer outcome ≡ Ok made → IsAccepted made.answer
+pub told_plain : {A : Type 0} (answer : Answer) (outcome : Outcome A) (made : Made Answer) → IsAccepted answer → outcome_with answer outcome ≡ Ok made → IsAccepted made.answer
 told_plain answer outcome made one is =
     let first = given outcome _ made is in
     subst (λ (k : Made Answer). IsAccepted k.answer) (same_answer _ made first.after) one
@@ -37,7 +38,7 @@ told_plain answer outcome made one is =
 sent_told : (old : Ledger) (actor : List ℕ) (asset : Asset) (to : Holder) (n : ℕ) (made : Made Answer) → send old actor asset to n ≡ Ok made → IsAccepted made.answer
 unfolding send
 sent_told old actor asset to n made is =
-    let first = given (known old asset) _ made is in
+    let first = given (known_asset old asset) _ made is in
     told_plain answers.Transfer (transfer old asset (holders.User actor) to n) made (record { accepted = λ why e. cc; written = tt }) first.after
 
 pub step_told : (old : Ledger) (actor : List ℕ) (step : Move) (made : Made Answer) → meaning old actor step ≡ Ok made → IsAccepted made.answer
@@ -48,7 +49,7 @@ step_told old actor (view.mint p to) made is = told_as answers.Mint (mint old p 
 step_told old actor (view.burn p to) made is = told_as answers.Burn (burn old p to) made (λ x. record { accepted = λ why e. cc; written = tt }) is
 step_told old actor (view.swap p out0 out1 to) made is = told_as answers.Swap (swap old p out0 out1 to) made (λ x. record { accepted = λ why e. cc; written = tt }) is
 step_told old actor (view.skim p to) made is = told_as answers.Skim (skim old p to) made (λ x. record { accepted = λ why e. cc; written = tt }) is
-step_told old actor (view.sync p) made is = told_as reserves_told (sync old p) made (λ x. record { accepted = λ why e. cc; written = tt }) is
+step_told old actor (view.sync p) made is = told_as sync_reply (sync old p) made (λ x. record { accepted = λ why e. cc; written = tt }) is
 step_told old actor (view.flash p out0 out1 steps) made is =
     let lent = given (lend old p out0 out1 (holders.User actor)) _ made is in
     let ran = given (meaning_of_all lent.value.ledger actor steps) _ made lent.after in

@@ -7,18 +7,18 @@ use Rattle.amm_model.specs.CommandView.{CommandView}
 use Rattle.amm_model.specs.Ledger.{Ledger}
 use Rattle.amm_model.specs.Sound.{IsAtRest}
 use Rattle.amm_model.specs.Meaning.{outcome_of}
-use Rattle.amm_model.specs.Answers.{answered, left_by}
+use Rattle.amm_model.specs.Answers.{answer_of, ledger_after}
 use Rattle.amm_model.specs.ReplyText.{reply_text}
-use Rattle.amm_state.specs.Tx.{Progress}
+use Rattle.amm_state.specs.Tx.{TxView}
 use Rattle.amm_state.specs.declared.mark.Mark.TheVariants.{Clean}
 
 -- the text is that of the reply to a command, which leaves the new ledger
 pub record AnswersCommand (old : Ledger) (number : ℕ) (asked : CommandView) (text : List ℕ) (new : Ledger) : Type 0 where
-  pub is : text ≡ reply_text (record { line = number; answer = answered (outcome_of old asked) })
-  pub left : new ≡ left_by old (outcome_of old asked)
+  pub is : text ≡ reply_text (record { line = number; answer = answer_of (outcome_of old asked) })
+  pub left : new ≡ ledger_after old (outcome_of old asked)
 
 -- the command was accepted, and the text is that of its reply
-pub record Accepted (old : Ledger) (number : ℕ) (asked : CommandView) (text : List ℕ) (tx : Progress) : Type 0 where
+pub record Accepted (old : Ledger) (number : ℕ) (asked : CommandView) (text : List ℕ) (tx : TxView) : Type 0 where
   pub answer : Answer
   pub gives : outcome_of old asked ≡ Ok (record { ledger = tx.present; answer = answer })
   pub is : text ≡ reply_text (record { line = number; answer = answer })

@@ -13,7 +13,7 @@ ghost use Rattle.amm_engine.specs.Commands.{AnswersCommand};
 ghost use Rattle.amm_engine.specs.Service.{AnswersLine, ServesAll, ServesEnded, ServesToLimit, BreaksOff, LacksMemory};
 
 use crate::Status;
-use crate::line::{run, write_reply};
+use crate::transaction::{run, write_reply};
 use amm_command::read_line;
 use amm_io::{IoEnd, Lines, Sink, Source, WriteEnd, write_all};
 use amm_model::limits::INPUT_LIMIT;

@@ -4,10 +4,10 @@
 //! what was written is the replies to its first lines.
 #![tactic(auto)]
 
-mod command;
+mod dispatch;
 mod engine;
-mod line;
 mod status;
+mod transaction;
 
 pub use amm_state::Seed;
 pub use engine::Engine;

@@ -14,7 +14,9 @@ use Rattle.amm_names.specs.Names.{is_token_name}
 use Rattle.amm_names.specs.Pools.{is_before, pool_between, pool_spelling, pool_token0, pool_token1, is_fee}
 use Rattle.amm_names.proofs.Spelling.{IsPool, token0_of_spelling, token1_of_spelling}
 use Rattle.amm_model.specs.declared.fault.Refusal.TheVariants as code
-use Rattle.amm_model.specs.Ledger.{Ledger, Made, is_listed, pair_of, add_pair, zero_pair}
+use Rattle.amm_model.specs.Ledger.{Ledger, is_listed, pair_of, zero_pair}
+use Rattle.amm_model.specs.Outcome.{Made}
+use Rattle.amm_model.specs.Postings.{add_pair}
 use Rattle.amm_model.specs.Factory.{create}
 use Rattle.amm_model.specs.Sound.{IsSound}
 use Rattle.amm_model.proofs.Guards.{given, not_refused, same_answer, was_some, was_none}

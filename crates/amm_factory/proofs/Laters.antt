@@ -3,7 +3,8 @@ use Rattle.std.proofs.Common.{◌≡◌, ℕ, List, Ok}
 use Rattle.std.specs.Prelude.{IsTrue}
 use Rattle.amm_names.specs.Names.{is_token_name}
 use Rattle.amm_names.specs.Pools.{is_fee}
-use Rattle.amm_model.specs.Ledger.{Ledger, Made}
+use Rattle.amm_model.specs.Ledger.{Ledger}
+use Rattle.amm_model.specs.Outcome.{Made}
 use Rattle.amm_model.specs.Factory.{create}
 use Rattle.amm_model.specs.Later.{Later}
 use Rattle.amm_factory.proofs.Creation.{create_kept}

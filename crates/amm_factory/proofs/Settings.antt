@@ -2,7 +2,8 @@
 use Rattle.std.proofs.Common.{◌≡◌, ℕ, not, List, Ok, refl, sym, ap, subst}
 use Rattle.amm_names.specs.declared.holder.Holder.{Holder}
 use Rattle.amm_model.specs.declared.fault.Refusal.TheVariants as code
-use Rattle.amm_model.specs.Ledger.{Ledger, Made, with_fee_to, with_setter}
+use Rattle.amm_model.specs.Ledger.{Ledger, with_fee_to, with_setter}
+use Rattle.amm_model.specs.Outcome.{Made}
 use Rattle.amm_model.specs.Pools.{same_name}
 use Rattle.amm_model.specs.Factory.{set_fee_to, set_setter}
 use Rattle.amm_model.specs.Sound.{IsSound}

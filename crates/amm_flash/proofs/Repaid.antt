@@ -4,12 +4,13 @@ use Rattle.amm_names.specs.declared.holder.Holder.{Holder}
 use Rattle.amm_model.specs.declared.pair.SwapReceipt.{SwapReceipt}
 use Rattle.amm_model.specs.declared.fault.Fault.{Fault}
 use Rattle.amm_model.specs.declared.fault.Fault.TheVariants as fault
-use Rattle.amm_model.specs.Ledger.{Ledger, Made}
+use Rattle.amm_model.specs.Ledger.{Ledger}
+use Rattle.amm_model.specs.Outcome.{Made}
 use Rattle.amm_model.specs.Pools.{Terms}
 use Rattle.amm_model.specs.Operations.{open_loan, give_back}
 use Rattle.amm_model.specs.Sound.{IsOpen, ProductKept}
 use Rattle.amm_model.specs.Later.{Later}
-use Rattle.amm_state.specs.Tx.{Progress, Meets}
+use Rattle.amm_state.specs.Tx.{TxView, Meets}
 use Rattle.amm_state.specs.declared.mark.Mark.{Mark}
 use Rattle.amm_state.specs.declared.mark.Mark.TheVariants as mark
 use Rattle.amm_pair.proofs.Laters.{give_back_undone, Opened, open_loan_lends, later_loan, loan_product}
@@ -19,7 +20,7 @@ use Rattle.amm_flash.specs.Flash.{FlashAnswers, before_return}
 pub open_later : (old new : Ledger) (loan : Terms) → IsOpen old loan → Later old new → IsOpen new loan
 open_later old new loan opened later = record { there = later.locked loan.pool loan.pair opened.there opened.locked; locked = opened.locked }
 
-module _ (did : Ledger → Ledger → Mark → Type 0) (lent : Made Terms) (mid new : Progress)
+module _ (did : Ledger → Ledger → Mark → Type 0) (lent : Made Terms) (mid new : TxView)
     (opened : IsOpen mid.present lent.answer) (later : Later lent.ledger mid.present) (deed : did lent.ledger mid.present mark.Clean) where
   pub return_answers : (answer : Result SwapReceipt Fault) → Meets mid new answer (give_back mid.present lent.answer.pool lent.answer.out0 lent.answer.out1)
       → OnErr answer (new.present ≡ mid.present) → FlashAnswers did (Ok lent) new.present answer
@@ -38,7 +39,7 @@ module _ (old : Ledger) (pool : List ℕ) (out0 out1 : ℕ) (to : Holder) (lent 
   o : Opened old pool out0 out1 to lent
   o = open_loan_lends old pool out0 out1 to lent lends
 
-  module _ (mid new : Progress) (within : Later lent.ledger mid.present) (answer : Result SwapReceipt Fault) (meets : Meets mid new answer (give_back mid.present lent.answer.pool lent.answer.out0 lent.answer.out1)) where
+  module _ (mid new : TxView) (within : Later lent.ledger mid.present) (answer : Result SwapReceipt Fault) (meets : Meets mid new answer (give_back mid.present lent.answer.pool lent.answer.out0 lent.answer.out1)) where
     within_lent : Later o.lent.ledger mid.present
     within_lent = subst (λ (l : Ledger). Later l mid.present) o.left within
 

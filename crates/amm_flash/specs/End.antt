@@ -1,7 +1,8 @@
 -- How a borrower's call ends.
 use Rattle.std.specs.Prelude.{◌≡◌, Result, Ok, Err}
 use Rattle.amm_model.specs.declared.fault.Fault.{Fault}
-use Rattle.amm_model.specs.Ledger.{Ledger, Outcome}
+use Rattle.amm_model.specs.Ledger.{Ledger}
+use Rattle.amm_model.specs.Outcome.{Outcome}
 use Rattle.amm_state.specs.Tx.{mark_of}
 use Rattle.amm_state.specs.declared.mark.Mark.{Mark}
 use Rattle.amm_state.specs.declared.mark.Mark.TheVariants as mark

@@ -4,7 +4,8 @@ use Rattle.amm_model.specs.declared.pair.SwapReceipt.{SwapReceipt}
 use Rattle.amm_model.specs.declared.fault.Refusal.{Refusal}
 use Rattle.amm_model.specs.declared.fault.Fault.{Fault}
 use Rattle.amm_model.specs.declared.fault.Fault.TheVariants as fault
-use Rattle.amm_model.specs.Ledger.{Ledger, Made, Outcome, with_pair}
+use Rattle.amm_model.specs.Ledger.{Ledger, with_pair}
+use Rattle.amm_model.specs.Outcome.{Made, Outcome}
 use Rattle.amm_model.specs.Pools.{Terms}
 use Rattle.amm_model.specs.Operations.{give_back}
 use Rattle.amm_model.specs.Later.{Later}

@@ -7,7 +7,8 @@ use Rattle.std.proofs.lemmas.Slice.Eq.{bytes_eq-Decides}
 use Rattle.std.proofs.lemmas.List.Elements.{All-cons, All-map}
 use Rattle.amm_model.specs.declared.problem.ProblemPool.{ProblemPool}
 use Rattle.amm_model.specs.declared.route.Hop.{Hop}
-use Rattle.amm_model.specs.Routing.{Name, no_pool, token0_of, token1_of}
+use Rattle.amm_model.specs.Routing.{no_pool, token0_of, token1_of}
+use Rattle.amm_names.specs.Names.{Name}
 use Rattle.amm_model.specs.Legs.{IsAdmissible}
 use Rattle.amm_model.specs.Paths.{AreAllPaths, ComesBefore, IsHop, IsPath, hop_from, hop_places, hop_to}
 use Rattle.amm_graph.specs.Ways.{hop_over, is_admissible, onward, through, ways}

@@ -5,9 +5,11 @@ use Rattle.amm_names.specs.declared.holder.Asset.TheVariants as assets
 use Rattle.amm_names.specs.Pools.{pool_token0, pool_token1}
 use Rattle.amm_model.specs.declared.pair.PairRecord.{PairRecord}
 use Rattle.amm_model.specs.Formulas.{IsBacked}
-use Rattle.amm_model.specs.Ledger.{Ledger, Made, add_pair, done, is_listed, pair_of, with_pair}
+use Rattle.amm_model.specs.Ledger.{Ledger, is_listed, pair_of, with_pair}
+use Rattle.amm_model.specs.Outcome.{Made, ledger_only}
+use Rattle.amm_model.specs.Postings.{add_pair}
 use Rattle.amm_model.specs.Pools.{held0, held1, same_name, supply}
-use Rattle.amm_model.specs.Routing.{Name}
+use Rattle.amm_names.specs.Names.{Name}
 use Rattle.amm_model.specs.Sound.{IsAtRest}
 use Rattle.amm_model.proofs.Names.{pair_of-set_here, pair_of-set_pair}
 use Rattle.amm_model.proofs.PairSound.{add_pair_made, add_pair_sound, one_more_pair, pair_cases}
@@ -52,7 +54,7 @@ filled l pool r0 r1 there none first second rest = record {
   free q pair true e = let same : pair ≡ new = cc in ap (λ (p : PairRecord). p.locked) same
   free q pair false e = rest.unlocked q pair e
 
-pub filled_rest : (l : Ledger) (pool : Name) (r0 r1 : ℕ) (made : Made (Unit {0})) → done (with_pair l pool (with_reserves r0 r1)) ≡ Ok made → IsSome (pair_of l.pairs pool) → supply l pool ≡ 0 →
+pub filled_rest : (l : Ledger) (pool : Name) (r0 r1 : ℕ) (made : Made (Unit {0})) → ledger_only (with_pair l pool (with_reserves r0 r1)) ≡ Ok made → IsSome (pair_of l.pairs pool) → supply l pool ≡ 0 →
     (r0 ≤ held0 l pool) × (r0 < 2 ^ 48) → (r1 ≤ held1 l pool) × (r1 < 2 ^ 48) → IsAtRest l → IsAtRest made.ledger
 filled_rest l pool r0 r1 made is there none first second rest =
     let after : Made (Unit {0}) = record { ledger = with_pair l pool (with_reserves r0 r1); answer = tt } in

@@ -27,7 +27,8 @@ use Rattle.amm_model.specs.declared.limits.TheConstants.{PART_LIMIT}
 use Rattle.amm_model.specs.Ledger.{Ledger, pair_of}
 use Rattle.amm_model.specs.Market.{IsOpenProblemIn, IsPoolIn, pool_at}
 use Rattle.amm_model.specs.Pools.{asset0, asset1, same_name}
-use Rattle.amm_model.specs.Routing.{AreOpenParts, HasBalances, HasReserves, IsBefore, IsOpenProblemOf, Name, OpenView}
+use Rattle.amm_model.specs.Routing.{AreOpenParts, HasBalances, HasReserves, IsBefore, IsOpenProblemOf, OpenView}
+use Rattle.amm_names.specs.Names.{Name}
 use Rattle.amm_model.specs.Sound.{IsAtRest}
 use Rattle.amm_model.proofs.LedgerLemmas.{balance_within_total}
 use Rattle.amm_model.proofs.Names.{same_name_is}

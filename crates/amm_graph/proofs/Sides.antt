@@ -9,7 +9,8 @@ use Rattle.std.proofs.lemmas.Slice.Eq.{bytes_eq-Decides}
 use Rattle.amm_model.specs.declared.problem.ProblemPool.{ProblemPool}
 use Rattle.amm_model.specs.declared.problem.TokenPlaces.{TokenPlaces}
 use Rattle.amm_model.specs.declared.route.Hop.{Hop}
-use Rattle.amm_model.specs.Routing.{Name, OpenView, ProblemView, IsOpenProblem, no_pool, one_part, opened, part_place, places_of, token0_of, token1_of, token_place}
+use Rattle.amm_model.specs.Routing.{OpenView, ProblemView, IsOpenProblem, no_pool, one_part, open_view, part_place, places_of, token0_of, token1_of, token_place}
+use Rattle.amm_names.specs.Names.{Name}
 use Rattle.amm_model.proofs.Problems.{no_part, once_tokens, parts_there, same_at, target_there, token_at, tokens_there}
 use Rattle.amm_graph.specs.Ways.{hop_over, is_admissible}
 
@@ -101,18 +102,18 @@ pub record AreEnds (p : ProblemView) (general : OpenView) (from to : ℕ) : Type
   pub apart : from ≢ to
   pub pools : general.pools ≡ p.pools
 
-pub ends_of : (p : ProblemView) (general : OpenView) (places : List ℕ) (to : ℕ) → general ≡ opened p → IsOpenProblem general → places ≡ map (part_place general.tokens) general.parts →
+pub ends_of : (p : ProblemView) (general : OpenView) (places : List ℕ) (to : ℕ) → general ≡ open_view p → IsOpenProblem general → places ≡ map (part_place general.tokens) general.parts →
     to ≡ token_place general.tokens general.t → AreEnds p general (get_or places 0 0) to
 ends_of p general places to is = subst (λ (g : OpenView). IsOpenProblem g → places ≡ map (part_place g.tokens) g.parts → to ≡ token_place g.tokens g.t → AreEnds p g (get_or places 0 0) to) (sym is) of_one
   where
-    of_one : IsOpenProblem (opened p) → places ≡ map (part_place p.tokens) (one_part p.s p.d) → to ≡ token_place p.tokens p.t → AreEnds p (opened p) (get_or places 0 0) to
+    of_one : IsOpenProblem (open_view p) → places ≡ map (part_place p.tokens) (one_part p.s p.d) → to ≡ token_place p.tokens p.t → AreEnds p (open_view p) (get_or places 0 0) to
     of_one sound are to-is =
         let from : get_or places 0 0 ≡ token_place p.tokens p.s = ap (λ (l : List ℕ). get_or l 0 0) are in
-        let source : name_at (opened p) (get_or places 0 0) ≡ p.s = ap (name_at (opened p)) from ∙ token_at p.tokens p.s (parts_there (opened p) sound 0 no_part (omega arith)) in
-        let target : name_at (opened p) to ≡ p.t = ap (name_at (opened p)) to-is ∙ token_at p.tokens p.t (target_there (opened p) sound) in
+        let source : name_at (open_view p) (get_or places 0 0) ≡ p.s = ap (name_at (open_view p)) from ∙ token_at p.tokens p.s (parts_there (open_view p) sound 0 no_part (omega arith)) in
+        let target : name_at (open_view p) to ≡ p.t = ap (name_at (open_view p)) to-is ∙ token_at p.tokens p.t (target_there (open_view p) sound) in
         record {
           source = source;
           target = target;
-          apart = λ e. sound.parts.apart 0 no_part (omega arith) (sym source ∙ ap (name_at (opened p)) e ∙ target);
+          apart = λ e. sound.parts.apart 0 no_part (omega arith) (sym source ∙ ap (name_at (open_view p)) e ∙ target);
           pools = refl;
         }

@@ -1,12 +1,11 @@
 -- One step of the walk.
 use Rattle.std.proofs.Common.{◌≡◌, ℕ, Bool, true, false, cond, Some, None, List, [], ◌∷◌, ◌++◌, length, map, arith, zero, suc, refl, sym, ap, ◌∙◌, append_assoc}
 use Rattle.std.specs.Str.{bytes_eq}
-use Rattle.std.proofs.lemmas.List.{append-nil}
+use Rattle.std.proofs.lemmas.List.{append-nil, map-append}
 use Rattle.amm_model.specs.declared.problem.ProblemPool.{ProblemPool}
 use Rattle.amm_model.specs.declared.route.Hop.{Hop}
-use Rattle.amm_model.specs.Routing.{Name}
+use Rattle.amm_names.specs.Names.{Name}
 use Rattle.amm_model.specs.Paths.{hop_to}
-use Rattle.std.proofs.lemmas.List.{map-append}
 use Rattle.amm_graph.specs.declared.path.Path.{Path}
 use Rattle.amm_graph.specs.Hops.{hops_of}
 use Rattle.amm_graph.specs.Ways.{behind, hop_over, joined, onward, through, ways}

@@ -4,7 +4,7 @@ use Rattle.amm_model.specs.declared.pair.PairRecord.{PairRecord}
 use Rattle.amm_model.specs.declared.problem.ProblemPool.{ProblemPool}
 use Rattle.amm_model.specs.Ledger.{Ledger, pair_of}
 use Rattle.amm_model.specs.Market.{pool_at}
-use Rattle.amm_model.specs.Routing.{Name}
+use Rattle.amm_names.specs.Names.{Name}
 
 -- both reserves are positive
 abbrev pub is_filled : PairRecord → Bool

@@ -3,7 +3,8 @@ use Rattle.std.specs.Prelude.{ℕ, zero, suc, ◌^◌, Bool, ◌&&◌, nat_lt, L
 use Rattle.std.specs.Str.{bytes_eq}
 use Rattle.amm_model.specs.declared.problem.ProblemPool.{ProblemPool}
 use Rattle.amm_model.specs.declared.route.Hop.{Hop}
-use Rattle.amm_model.specs.Routing.{Name, no_pool, token0_of, token1_of}
+use Rattle.amm_model.specs.Routing.{no_pool, token0_of, token1_of}
+use Rattle.amm_names.specs.Names.{Name}
 use Rattle.amm_model.specs.Paths.{hop_to}
 
 -- both balances have room for an update

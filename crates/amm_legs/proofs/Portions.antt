@@ -10,8 +10,9 @@ use Rattle.amm_model.specs.declared.problem.ProblemPool.{ProblemPool}
 use Rattle.amm_model.specs.declared.route.Hop.{Hop}
 use Rattle.amm_model.specs.declared.route.Leg.{Leg}
 use Rattle.amm_model.specs.Swap.{amount_out_of}
-use Rattle.amm_model.specs.Routing.{Name, ProblemView, given, no_pool, fee_of, opened}
-use Rattle.amm_model.specs.Legs.{Holdings, IsAdmissible, IsLeg, AreLegs, Delivers, after_leg, after_legs, used_after}
+use Rattle.amm_model.specs.Routing.{ProblemView, amount_given, no_pool, fee_of, open_view}
+use Rattle.amm_names.specs.Names.{Name}
+use Rattle.amm_model.specs.Legs.{Inventory, IsAdmissible, IsLeg, AreLegs, Delivers, after_leg, after_legs, used_after}
 use Rattle.amm_model.specs.Paths.{hop_from, hop_to, hop_gives, IsHop, Leads, AreApart, hop_places, gives}
 use Rattle.amm_legs.specs.Portions.{Portion, ArePortions, leg_of_hop, legs_along, legs_of, given_by}
 
@@ -48,7 +49,7 @@ let-through a b v some = pick (nat_lt a b) (ltb-true a b) some
     pick false says some = absurd (omega arith)
 
 -- a hop that gives something is a leg
-hop_leg : (pools : List ProblemPool) (used : List ℕ) (held : Holdings) (hop : Hop) (x : ℕ) → IsHop pools hop →
+hop_leg : (pools : List ProblemPool) (used : List ℕ) (held : Inventory) (hop : Hop) (x : ℕ) → IsHop pools hop →
     All (λ (q : ℕ). q ≢ hop.pool) used → x ≤ held (hop_from pools hop) → 1 ≤ x → 1 ≤ hop_gives pools hop x → IsLeg pools used held (leg_of_hop pools hop x)
 hop_leg pools used held hop x is unused within positive some = by_side hop.pool hop.zero_in is.there is.admissible unused within some
   where
@@ -77,11 +78,11 @@ in-and-out : (h x : ℕ) (b : Bool) → (b ≡ true → x ≤ h) → h ≡ (h - 
 in-and-out h x true within = let l = within refl in omega arith
 in-and-out h x false within = omega arith
 
-within-at : (held : Holdings) (first y : Name) (x : ℕ) → x ≤ held first → bytes_eq y first ≡ true → x ≤ held y
+within-at : (held : Inventory) (first y : Name) (x : ℕ) → x ≤ held first → bytes_eq y first ≡ true → x ≤ held y
 within-at held first y x within e = subst (λ (t : Name). x ≤ held t) (sym ((bytes_eq-Decides y first).0 e)) within
 
 -- what is held after the legs of a path: less of the first token, more of the last
-path-after : (pools : List ProblemPool) (held : Holdings) (first last : Name) (hops : List Hop) (x : ℕ) → Leads pools first hops last → x ≤ held first → (y : Name) →
+path-after : (pools : List ProblemPool) (held : Inventory) (first last : Name) (hops : List Hop) (x : ℕ) → Leads pools first hops last → x ≤ held first → (y : Name) →
     after_legs pools held (legs_along pools hops x) y ≡ (held y - cond (bytes_eq y first) x 0) + cond (bytes_eq y last) (gives pools hops x) 0
 path-after pools held first last [] x leads within y =
     subst (λ (l : Name). held y ≡ (held y - cond (bytes_eq y first) x 0) + cond (bytes_eq y l) x 0) leads
@@ -103,7 +104,7 @@ apart-cons p q qs here rest zero d below = here
 apart-cons p q qs here rest (suc k) d below = rest k d (omega arith)
 
 -- the legs of a path that gives something, over pools not used
-path-legal : (pools : List ProblemPool) (used : List ℕ) (held : Holdings) (first last : Name) (hops : List Hop) (x : ℕ) →
+path-legal : (pools : List ProblemPool) (used : List ℕ) (held : Inventory) (first last : Name) (hops : List Hop) (x : ℕ) →
     All (IsHop pools) hops → AllPairs (λ (a b : ℕ). a ≢ b) (hop_places hops) → AreApart (hop_places hops) used → Leads pools first hops last → x ≤ held first →
     1 ≤ gives pools hops x → AreLegs pools used held (legs_along pools hops x)
 path-legal pools used held first last [] x over different apart leads within some = tt
@@ -121,12 +122,12 @@ path-legal pools used held first last (hop ∷ hops) x over different apart lead
     )
 
 -- lists of legs one after the other
-legs-append : (pools : List ProblemPool) (used : List ℕ) (held : Holdings) (a b : List Leg) → AreLegs pools used held a →
+legs-append : (pools : List ProblemPool) (used : List ℕ) (held : Inventory) (a b : List Leg) → AreLegs pools used held a →
     AreLegs pools (used_after used a) (after_legs pools held a) b → AreLegs pools used held (a ++ b)
 legs-append pools used held [] b first second = second
 legs-append pools used held (leg ∷ a) b first second = (first.0, legs-append pools (leg.pool ∷ used) (after_leg pools held leg) a b first.1 second)
 
-after-append : (pools : List ProblemPool) (held : Holdings) (a b : List Leg) → after_legs pools held (a ++ b) ≡ after_legs pools (after_legs pools held a) b
+after-append : (pools : List ProblemPool) (held : Inventory) (a b : List Leg) → after_legs pools held (a ++ b) ≡ after_legs pools (after_legs pools held a) b
 after-append pools held [] b = refl
 after-append pools held (leg ∷ a) b = after-append pools (after_leg pools held leg) a b
 
@@ -147,7 +148,7 @@ all-right p [] ys all = all
 all-right p (a ∷ xs) ys all = all-right p xs ys (λ i e lt. all (suc i) e (omega arith))
 
 -- portions, where what is used is apart from all that is apart from `used`
-pub portions-legal : (pools : List ProblemPool) (s t : Name) (used u : List ℕ) (left : ℕ) (held : Holdings) (portions : List Portion) → s ≢ t →
+pub portions-legal : (pools : List ProblemPool) (s t : Name) (used u : List ℕ) (left : ℕ) (held : Inventory) (portions : List Portion) → s ≢ t →
     ((p : ℕ) → All (λ (q : ℕ). p ≢ q) used → All (λ (q : ℕ). p ≢ q) u) → left ≤ held s → ArePortions pools s t used left portions →
     AreLegs pools u held (legs_of pools portions)
     × (after_legs pools held (legs_of pools portions) t ≡ held t + given_by pools portions)
@@ -172,15 +173,15 @@ portions-legal pools s t used u left held (portion ∷ portions) ends covers eno
     let rest = portions-legal pools s t (used ++ hop_places portion.path) (used_after u legs) (left - portion.input) (after_legs pools held legs) portions ends
     (λ p all. used-path pools u portion.path portion.input p (covers p (all-left p used (hop_places portion.path) all)) (all-right p used (hop_places portion.path) all))
     (omega arith) sound.4 in
-    let joined = ap (λ (h : Holdings). h t) (after-append pools held legs (legs_of pools portions)) in
+    let joined = ap (λ (h : Inventory). h t) (after-append pools held legs (legs_of pools portions)) in
     let sum = sum_by-cons (λ (q : Portion). gives pools q.path q.input) portion portions in
     (legs-append pools u held legs (legs_of pools portions) legal rest.0, omega (arith, rest.1))
 
 -- the legs of portions out of what the problem brings deliver what the portions give
 pub portions-deliver : (problem : ProblemView) (portions : List Portion) → problem.s ≢ problem.t → ArePortions problem.pools problem.s problem.t [] problem.d portions →
-    Delivers (opened problem) (legs_of problem.pools portions) (given_by problem.pools portions)
+    Delivers (open_view problem) (legs_of problem.pools portions) (given_by problem.pools portions)
 portions-deliver problem portions ends are =
-    let start-s : given (opened problem) problem.s ≡ problem.d = ap (λ (b : Bool). cond b problem.d 0) (eq-self problem.s) in
-    let start-t : given (opened problem) problem.t ≡ 0 = ap (λ (b : Bool). cond b problem.d 0) (not-same problem.t problem.s (λ e. ends (sym e))) in
-    let legal = portions-legal problem.pools problem.s problem.t [] [] problem.d (given (opened problem)) portions ends (λ p all. all) (omega arith) are in
+    let start-s : amount_given (open_view problem) problem.s ≡ problem.d = ap (λ (b : Bool). cond b problem.d 0) (eq-self problem.s) in
+    let start-t : amount_given (open_view problem) problem.t ≡ 0 = ap (λ (b : Bool). cond b problem.d 0) (not-same problem.t problem.s (λ e. ends (sym e))) in
+    let legal = portions-legal problem.pools problem.s problem.t [] [] problem.d (amount_given (open_view problem)) portions ends (λ p all. all) (omega arith) are in
     (legal.0, omega (arith, legal.1))

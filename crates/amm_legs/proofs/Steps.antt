@@ -12,16 +12,15 @@ use Rattle.amm_model.specs.declared.problem.ProblemPool.{ProblemPool}
 use Rattle.amm_model.specs.declared.problem.TokenPlaces.{TokenPlaces}
 use Rattle.amm_model.specs.declared.route.Leg.{Leg}
 use Rattle.amm_model.specs.Swap.{amount_out_of}
-use Rattle.amm_model.specs.Routing.{Name, OpenView, IsBefore, IsOpenProblem, fee_of, given_by_parts, part_place, places_of, token_place, no_pool, token0_of, token1_of}
-use Rattle.amm_model.specs.Legs.{Holdings, IsLeg, after_legs, used_after, no_leg, leg_pool, token_in, token_out}
-use Rattle.amm_model.specs.Routing.{given}
+use Rattle.amm_model.specs.Routing.{OpenView, IsBefore, IsOpenProblem, fee_of, given_by_parts, part_place, places_of, token_place, no_pool, token0_of, token1_of, amount_given}
+use Rattle.amm_names.specs.Names.{Name}
+use Rattle.amm_model.specs.Legs.{Inventory, IsLeg, after_legs, used_after, no_leg, leg_pool, token_in, token_out}
 use Rattle.amm_model.proofs.Swap.{amount_out-lt}
-use Rattle.amm_model.proofs.Problems.{before-apart, no_part, once_tokens, parts_there, tokens_there, tokens_few}
+use Rattle.amm_model.proofs.Problems.{before-apart, no_part, once_tokens, parts_there, tokens_there, tokens_few, token_at, same_at}
 use Rattle.amm_model.proofs.LegLaw.{legs_few}
 use Rattle.amm_legs.specs.Progress.{Follows, IsNext}
 use Rattle.amm_legs.proofs.Legs.{after_legs-more, legs-more, used_after-more}
 use Rattle.amm_legs.proofs.Places.{read_set, moved}
-use Rattle.amm_model.proofs.Problems.{token_at, same_at}
 
 -- one part more is given
 given-more : (parts : List Part) (i : ℕ) → i < length parts → AllPairs (λ (a b : Part). IsBefore a.token b.token) parts → (y : Name) →
@@ -130,7 +129,7 @@ leg_tokens_there problem sound leg there = by_side leg.zero_in
     by_side false = (both.1, both.0)
 
 -- an output is below its reserve
-pub output-lt : (problem : OpenView) (used : List ℕ) (held : Holdings) (leg : Leg) → IsOpenProblem problem → IsLeg problem.pools used held leg → leg.output < 2 ^ 48
+pub output-lt : (problem : OpenView) (used : List ℕ) (held : Inventory) (leg : Leg) → IsOpenProblem problem → IsLeg problem.pools used held leg → leg.output < 2 ^ 48
 output-lt problem used held leg sound legal = by_side leg.zero_in legal.pays
   where
     by_side : (z : Bool) → leg.output ≡ amount_out_of (fee_of (leg_pool problem.pools leg)) leg.input (cond z (leg_pool problem.pools leg).r0 (leg_pool problem.pools leg).r1) (cond z (leg_pool problem.pools leg).r1 (leg_pool problem.pools leg).r0) →
@@ -170,14 +169,14 @@ pub follows_next : (problem : OpenView) → IsOpenProblem problem → (legs : Li
 follows_next problem sound legs i inside held used follows next from to from-is to-is = record {
   long = length-set _ to _ ∙ length-set held from _ ∙ follows.long;
   wide = length-set used leg.pool true ∙ follows.wide;
-  legal = legs-more problem.pools [] (given problem) legs i inside follows.legal next;
+  legal = legs-more problem.pools [] (amount_given problem) legs i inside follows.legal next;
   amounts = λ j below. moved held from to leg.input leg.output j from-in to-in
       ∙ ap (λ (b : Bool). (get_or held j 0 - cond b leg.input 0) + cond (nat_eq j to) leg.output 0) (ap (nat_eq j) from-is ∙ sym (same_at problem.tokens once (token_in problem.pools leg) there.0 j below))
       ∙ ap (λ (b : Bool). (get_or held j 0 - cond (bytes_eq (get_or problem.tokens j []) (token_in problem.pools leg)) leg.input 0) + cond b leg.output 0)
       (ap (nat_eq j) to-is ∙ sym (same_at problem.tokens once (token_out problem.pools leg) there.1 j below))
       ∙ ap (λ (n : ℕ). (n - cond (bytes_eq (get_or problem.tokens j []) (token_in problem.pools leg)) leg.input 0) + cond (bytes_eq (get_or problem.tokens j []) (token_out problem.pools leg)) leg.output 0)
       (follows.amounts j below)
-      ∙ sym (after_legs-more problem.pools (given problem) legs i (get_or problem.tokens j []) inside);
+      ∙ sym (after_legs-more problem.pools (amount_given problem) legs i (get_or problem.tokens j []) inside);
   below = λ j. rw (moved held from to leg.input leg.output j from-in to-in, one_more) (small (nat_eq j from) (nat_eq j to) j (follows.below j));
   marks = λ place within. rw (used_after-more [] legs i inside) (marked used leg.pool (used_after [] (take i legs)) follows.wide (omega (arith, next.there, sound.parts.few)) follows.marks place within);
 }
@@ -202,17 +201,17 @@ follows_next problem sound legs i inside held used follows next from to from-is 
 
     small : (b c : Bool) (j : ℕ) → get_or held j 0 ≤ 2 ^ 52 + length (take i legs) * 2 ^ 48 →
         (get_or held j 0 - cond b leg.input 0) + cond c leg.output 0 ≤ 2 ^ 52 + suc (length (take i legs)) * 2 ^ 48
-    small b true j low = let m = output-lt problem (used_after [] (take i legs)) (after_legs problem.pools (given problem) (take i legs)) leg sound next in omega arith
+    small b true j low = let m = output-lt problem (used_after [] (take i legs)) (after_legs problem.pools (amount_given problem) (take i legs)) leg sound next in omega arith
     small b false j low = omega arith
 
 -- what stands at the place of a token that goes in
 pub held_at : (problem : OpenView) → IsOpenProblem problem → (legs : List Leg) (held : List ℕ) (used : List Bool) → Follows problem legs held used →
     (leg : Leg) (from : ℕ) → leg.pool < length problem.pools → from ≡ token_place problem.tokens (token_in problem.pools leg) →
-    get_or held from 0 ≡ after_legs problem.pools (given problem) legs (token_in problem.pools leg)
+    get_or held from 0 ≡ after_legs problem.pools (amount_given problem) legs (token_in problem.pools leg)
 held_at problem sound legs held used follows leg from inside from-is =
     let there = (leg_tokens_there problem sound leg inside).0 in
     let token : get_or problem.tokens from [] ≡ token_in problem.pools leg = ap (λ (j : ℕ). get_or problem.tokens j []) from-is ∙ token_at problem.tokens (token_in problem.pools leg) there in
-    follows.amounts from (rw from-is there) ∙ ap (after_legs problem.pools (given problem) legs) token
+    follows.amounts from (rw from-is there) ∙ ap (after_legs problem.pools (amount_given problem) legs) token
 
 -- the output has room where it goes
 pub room_left : (problem : OpenView) → IsOpenProblem problem → (legs : List Leg) (i : ℕ) (held : List ℕ) (used : List Bool) → i < length legs →
@@ -220,8 +219,8 @@ pub room_left : (problem : OpenView) → IsOpenProblem problem → (legs : List 
     get_or (set held from (get_or held from 0 - (get_or legs i no_leg).input)) to 0 + (get_or legs i no_leg).output < 2 ^ 64
 room_left problem sound legs i held used inside follows next from to from-is =
     let there = (leg_tokens_there problem sound (get_or legs i no_leg) next.there).0 in
-    let few = legs_few problem [] (given problem) (take i legs) sound follows.legal in
-    let out = output-lt problem (used_after [] (take i legs)) (after_legs problem.pools (given problem) (take i legs)) (get_or legs i no_leg) sound next in
+    let few = legs_few problem [] (amount_given problem) (take i legs) sound follows.legal in
+    let out = output-lt problem (used_after [] (take i legs)) (after_legs problem.pools (amount_given problem) (take i legs)) (get_or legs i no_leg) sound next in
     rw (read_set held from (get_or held from 0 - (get_or legs i no_leg).input) to (omega (arith, follows.long, tokens_few problem sound))) (small (nat_eq to from) few out)
   where
     small : (b : Bool) → length (take i legs) ≤ 256 → (get_or legs i no_leg).output < 2 ^ 48 →

@@ -1,7 +1,7 @@
 //! The holdings and the used pools, from leg to leg.
 ghost use Rattle.std.specs.Prelude.{◌≡◌, ◌↔◌, ◌<◌, ◌≤◌, ◌+◌, ◌^◌, [], IsTrue, length, take, slice_index, slice_index_or, ℕ, false, if◌then◌else◌};
 ghost use Rattle.amm_model.specs.Swap.{IsFee, amount_out_of};
-ghost use Rattle.amm_model.specs.Routing.{HasReserves, fee_of, given};
+ghost use Rattle.amm_model.specs.Routing.{HasReserves, fee_of, amount_given};
 ghost use Rattle.amm_model.specs.Legs.{IsAdmissible, IsLeg, after_legs, no_leg, used_after};
 ghost use Rattle.amm_legs.specs.Progress.{Follows, IsNext, IsPaid};
 
@@ -93,7 +93,7 @@ impl Progress {
     /// What is held of the problem's target.
     pub fn held_of_target(&self, problem: &OpenProblem, legs: &[Leg]) -> u64
         requires { Follows problem.now legs.now self.now.held self.now.used }
-        ensures { result ≡ after_legs problem.now.pools (given problem.now) legs.now problem.now.t }
+        ensures { result ≡ after_legs problem.now.pools (amount_given problem.now) legs.now problem.now.t }
     {
         self.held[problem.target()]
     }

@@ -4,7 +4,7 @@ use Rattle.std.proofs.lemmas.Bool.{cond-false}
 use Rattle.amm_names.specs.declared.holder.Holder.{Holder}
 use Rattle.amm_names.specs.declared.holder.Asset.{Asset}
 use Rattle.amm_names.specs.Order.{same_holder, same_asset}
-use Rattle.amm_model.specs.Ledger.{Ledger, balance, total, set_balance, added, taken}
+use Rattle.amm_model.specs.Ledger.{Ledger, balance, total, set_balance, with_more, with_less}
 use Rattle.amm_model.proofs.LedgerLemmas.{balance-set_balance, balance-set_here, total-set_balance, total-set_other}
 use Rattle.amm_model.proofs.Names.{holder_cases, asset_cases, holders_apart, assets_apart}
 
@@ -89,7 +89,7 @@ changed_added a h n old new c = record {
   totals = c.totals;
 }
 
-pub added_added : (l : Ledger) (a : Asset) (h : Holder) (n : ℕ) → Added a h n l (added l a h n)
+pub added_added : (l : Ledger) (a : Asset) (h : Holder) (n : ℕ) → Added a h n l (with_more l a h n)
 added_added l a h n = changed_added a h n l _ (set_balance_changed l a h (balance l a h + n))
 
 -- the holder has n fewer of the asset
@@ -103,7 +103,7 @@ pub record Taken (asset : Asset) (holder : Holder) (n : ℕ) (old new : Ledger) 
 
 -- what another holder has does not fall
 pub taken_kept : (a : Asset) (h : Holder) (n : ℕ) (old new : Ledger) → Taken a h n old new → (q : Asset) (p : Holder) → p ≢ h → balance old q p ≤ balance new q p
-taken_kept a h n old new taken q p other = elim (taken.elsewhere q p) [ inl both ↦ absurd (other both.1) | inr e ↦ omega arith ]
+taken_kept a h n old new with_less q p other = elim (with_less.elsewhere q p) [ inl both ↦ absurd (other both.1) | inr e ↦ omega arith ]
 
 pub changed_taken : (a : Asset) (h : Holder) (n : ℕ) (old new : Ledger) → n ≤ balance old a h → Changed a h (balance old a h - n) old new → Taken a h n old new
 changed_taken a h n old new funds c = record {
@@ -115,5 +115,5 @@ changed_taken a h n old new funds c = record {
   totals = c.totals;
 }
 
-pub taken_taken : (l : Ledger) (a : Asset) (h : Holder) (n : ℕ) → n ≤ balance l a h → Taken a h n l (taken l a h n)
+pub taken_taken : (l : Ledger) (a : Asset) (h : Holder) (n : ℕ) → n ≤ balance l a h → Taken a h n l (with_less l a h n)
 taken_taken l a h n funds = changed_taken a h n l _ funds (set_balance_changed l a h (balance l a h - n))

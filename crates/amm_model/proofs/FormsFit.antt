@@ -8,21 +8,21 @@ use Rattle.serde_json.specs.Data.{Data, null, boolean, number, string, array, ob
 use Rattle.amm_names.specs.Names.{is_token_name}
 use Rattle.amm_names.specs.Pools.{is_pool_name, is_fee}
 use Rattle.amm_model.specs.declared.fault.Refusal.{Refusal}
-use Rattle.amm_model.specs.declared.path.RoutePath.{RoutePath}
+use Rattle.amm_model.specs.declared.route_path.RoutePath.{RoutePath}
 use Rattle.amm_model.specs.Outcome.{◌>>=◌}
 use Rattle.amm_model.specs.Swap.{IsFee}
-use Rattle.amm_model.specs.Forms.{as_text, as_list, as_token, as_pool, as_path, as_amount, as_fee, as_whole, fee_behind, fitting, Hop, hops, path_along}
+use Rattle.amm_model.specs.Forms.{as_text, as_list, as_token, as_pool, as_path, as_amount, as_fee, as_whole, fee_behind, value_if, Hop, hops, path_along}
 use Rattle.amm_model.specs.declared.limits.TheConstants.{AMOUNT_LIMIT, PATH_LEAST, PATH_LIMIT}
 use Rattle.amm_model.specs.Fits.{IsAmount, IsPath}
 use Rattle.amm_model.proofs.Guards.{given, same_answer}
 
 -- what was fitting passed the test
-pub passed : {A : Type 0} (test : Bool) (x made : A) → fitting test x ≡ Ok made → IsTrue test × (x ≡ made)
+pub passed : {A : Type 0} (test : Bool) (x made : A) → value_if test x ≡ Ok made → IsTrue test × (x ≡ made)
 passed true x made is = (refl, same_answer x made is)
 passed false x made is = cc
 
 -- so did what a form gave, and then was tested
-passed_of : {A : Type 0} (first : Result A Refusal) (test : A → Bool) (made : A) → (first >>= λ x. fitting (test x) x) ≡ Ok made → IsTrue (test made)
+passed_of : {A : Type 0} (first : Result A Refusal) (test : A → Bool) (made : A) → (first >>= λ x. value_if (test x) x) ≡ Ok made → IsTrue (test made)
 passed_of first test made is =
     let one = given first _ made is in
     let both = passed (test one.value) one.value made one.after in

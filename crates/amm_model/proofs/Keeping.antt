@@ -6,7 +6,9 @@ use Rattle.amm_names.specs.declared.holder.Holder.TheVariants as holders
 use Rattle.amm_names.specs.declared.holder.Asset.{Asset}
 use Rattle.amm_names.specs.declared.holder.Asset.TheVariants as assets
 use Rattle.amm_model.specs.declared.pair.PairRecord.{PairRecord}
-use Rattle.amm_model.specs.Ledger.{Ledger, Pairs, Made, pair_of, transfer}
+use Rattle.amm_model.specs.Ledger.{Ledger, Pairs, pair_of}
+use Rattle.amm_model.specs.Outcome.{Made}
+use Rattle.amm_model.specs.Postings.{transfer}
 use Rattle.amm_model.specs.Laws.{ZeroKept, TokenTotalsKept}
 use Rattle.amm_model.specs.Sound.{IsSound, IsAtRest}
 use Rattle.amm_model.proofs.Names.{name_cases, some_there, one_value}

@@ -5,7 +5,9 @@ use Rattle.amm_names.specs.declared.holder.Holder.{Holder}
 use Rattle.amm_names.specs.declared.holder.Holder.TheVariants as holders
 use Rattle.amm_names.specs.declared.holder.Asset.{Asset}
 use Rattle.amm_model.specs.declared.pair.PairRecord.{PairRecord}
-use Rattle.amm_model.specs.Ledger.{Ledger, Made, pair_of, transfer}
+use Rattle.amm_model.specs.Ledger.{Ledger, pair_of}
+use Rattle.amm_model.specs.Outcome.{Made}
+use Rattle.amm_model.specs.Postings.{transfer}
 use Rattle.amm_model.specs.Laws.{ZeroKept}
 use Rattle.amm_model.specs.Sound.{IsSound, IsAtRest}
 use Rattle.amm_model.specs.Later.{Later}

@@ -8,7 +8,9 @@ use Rattle.std.specs.FinMap as fin
 use Rattle.amm_names.specs.declared.holder.Holder.{Holder}
 use Rattle.amm_names.specs.declared.holder.Asset.{Asset}
 use Rattle.amm_names.specs.Order.{holder_cmp, asset_cmp, same_holder, same_asset}
-use Rattle.amm_model.specs.Ledger.{Holdings, HoldingsByAsset, Ledger, amount, set_amount, sum_held, holdings_of, set_holdings, balance, total, set_balance, done, transfer}
+use Rattle.amm_model.specs.Ledger.{Holdings, HoldingsByAsset, Ledger, amount, set_amount, sum_held, holdings_of, set_holdings, balance, total, set_balance}
+use Rattle.amm_model.specs.Outcome.{ledger_only}
+use Rattle.amm_model.specs.Postings.{transfer}
 use Rattle.amm_model.specs.Tidy.{IsTidy, IsTidyByAsset}
 use Rattle.amm_names.proofs.OrderLemmas.{holder_total, holder_antisymmetric, asset_total, asset_antisymmetric}
 use Rattle.amm_model.proofs.FinSum.{in_all, sum-insert, sum-remove, value_at_most_sum}
@@ -106,7 +108,7 @@ pub total-nothing : (a : Asset) → sum_held (holdings_of fin.empty a) ≡ 0
 total-nothing a = rw (holdings_of-empty a) sum_held-empty
 
 -- a transfer to oneself needs the funds and changes nothing
-pub transfer_to_oneself : (l : Ledger) (a : Asset) (f t : Holder) (n : ℕ) → n ≤ balance l a f → same_holder f t ≡ true → transfer l a f t n ≡ done l
+pub transfer_to_oneself : (l : Ledger) (a : Asset) (f t : Holder) (n : ℕ) → n ≤ balance l a f → same_holder f t ≡ true → transfer l a f t n ≡ ledger_only l
 unfolding transfer
 transfer_to_oneself l a f t n funds same =
     let enough : nat_lt (balance l a f) n ≡ false = le-ltb (balance l a f) n funds in

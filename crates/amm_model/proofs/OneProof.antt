@@ -3,7 +3,7 @@ use Rattle.std.specs.Prelude.{Bool, true, suc, length, slice_index_or, List, IsT
 use Rattle.std.specs.List.{All}
 use Rattle.std.specs.Coded.{×_prop, Π_prop, →_prop, Unit-prop, le_prop, Coded-set, coded_bool, coded_ℕ}
 use Rattle.amm_names.specs.Pools.{is_fee}
-use Rattle.amm_model.specs.declared.path.RoutePath.{RoutePath}
+use Rattle.amm_model.specs.declared.route_path.RoutePath.{RoutePath}
 use Rattle.amm_model.specs.declared.command.AddWant.{AddWant}
 use Rattle.amm_model.specs.declared.command.RemoveWant.{RemoveWant}
 use Rattle.amm_model.specs.Swap.{IsFee}

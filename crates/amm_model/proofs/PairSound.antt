@@ -11,7 +11,9 @@ use Rattle.amm_names.specs.declared.holder.Asset.TheVariants as assets
 use Rattle.amm_names.specs.Pools.{pool_token0, pool_token1}
 use Rattle.amm_model.specs.declared.pair.PairRecord.{PairRecord}
 use Rattle.amm_model.specs.declared.fault.Refusal.TheVariants as code
-use Rattle.amm_model.specs.Ledger.{Ledger, Pairs, Made, done, is_listed, pair_of, zero_pair, add_pair}
+use Rattle.amm_model.specs.Ledger.{Ledger, Pairs, is_listed, pair_of, zero_pair}
+use Rattle.amm_model.specs.Outcome.{Made, ledger_only}
+use Rattle.amm_model.specs.Postings.{add_pair}
 use Rattle.amm_model.specs.declared.limits.TheConstants.{PAIR_LIMIT}
 use Rattle.amm_model.specs.Pools.{supply, same_name}
 use Rattle.amm_model.specs.Formulas.{IsBacked}
@@ -122,7 +124,7 @@ module _ (old : Ledger) (pool : List ℕ) (made : Made (Unit {0})) (is : add_pai
   -- what an accepted call leaves
   pub add_pair_made : (length old.pairs < PAIR_LIMIT) × (made.ledger ≡ one_more_pair old pool)
   add_pair_made =
-      let past = past_refusal (nat_le PAIR_LIMIT (length old.pairs)) code.PairLimit (done (one_more_pair old pool)) made is in
+      let past = past_refusal (nat_le PAIR_LIMIT (length old.pairs)) code.PairLimit (ledger_only (one_more_pair old pool)) made is in
       let told : nat_le PAIR_LIMIT (length old.pairs) ≡ false = past.0 in
       let room : length old.pairs < PAIR_LIMIT = grind (arith, nat_tests) in
       (room, sym (ap (λ (k : Made (Unit {0})). k.ledger) (same_answer (record { ledger = one_more_pair old pool; answer = tt }) made past.1)))

@@ -13,7 +13,9 @@ use Rattle.amm_names.specs.declared.holder.Asset.TheVariants as assets
 use Rattle.amm_names.specs.Pools.{pool_token0, pool_token1}
 use Rattle.amm_model.specs.declared.pair.PairRecord.{PairRecord}
 use Rattle.amm_model.specs.declared.fault.Refusal.TheVariants as code
-use Rattle.amm_model.specs.Ledger.{Ledger, HoldingsByAsset, Pairs, Made, done, holdings_of, sum_held, balance, total, is_listed, pair_of, list, issue, retire, transfer, added, set_time}
+use Rattle.amm_model.specs.Ledger.{Ledger, HoldingsByAsset, Pairs, holdings_of, sum_held, balance, total, is_listed, pair_of, with_more}
+use Rattle.amm_model.specs.Outcome.{Made, ledger_only}
+use Rattle.amm_model.specs.Postings.{list_token, issue, retire, transfer, set_time}
 use Rattle.amm_model.specs.declared.limits.TheConstants.{AMOUNT_LIMIT, TOKEN_LIMIT, QUOTE_LIMIT, OBSERVATION_LIMIT}
 use Rattle.amm_model.specs.Pools.{same_name, asset0, asset1}
 use Rattle.amm_model.specs.Formulas.{IsBacked}
@@ -132,7 +134,7 @@ issue_added l a h n made is =
     let past = past_refusal (nat_lt AMOUNT_LIMIT (total l a + n)) code.TotalLimit _ made is in
     let told : nat_lt AMOUNT_LIMIT (total l a + n) ≡ false = past.0 in
     let fits : total l a + n ≤ AMOUNT_LIMIT = grind (arith, nat_tests) in
-    let e = same_answer (record { ledger = added l a h n; answer = tt }) made past.1 in
+    let e = same_answer (record { ledger = with_more l a h n; answer = tt }) made past.1 in
     (fits, subst (λ (k : Made (Unit {0})). Added a h n l k.ledger) e (added_added l a h n))
 
 share_no_token : (pool name : List ℕ) → assets.Share pool ≢ assets.Token name
@@ -231,7 +233,7 @@ at_time old time = record old { time = time }
 module _ (old : Ledger) (time : ℕ) (made : Made (Unit {0})) (is : set_time old time ≡ Ok made) where
   later : at_time old time ≡ made.ledger
   later =
-      let past = past_refusal (nat_lt time old.time) code.TimeBack (done (at_time old time)) made is in
+      let past = past_refusal (nat_lt time old.time) code.TimeBack (ledger_only (at_time old time)) made is in
       ap (λ (k : Made (Unit {0})). k.ledger) (same_answer (record { ledger = at_time old time; answer = tt }) made past.1)
 
   pub set_time_plain : Plain old made.ledger
@@ -287,17 +289,17 @@ listed_already old token is = record {
   here = is;
 }
 
-pub list_listed : (old : Ledger) (token : List ℕ) (made : Made (Unit {0})) → list old token ≡ Ok made → Listed token old made.ledger
+pub list_listed : (old : Ledger) (token : List ℕ) (made : Made (Unit {0})) → list_token old token ≡ Ok made → Listed token old made.ledger
 list_listed old token made is =
-    elim (is_listed old.tokens token) as (λ b. is_listed old.tokens token ≡ b → (if b then done old else (if nat_le TOKEN_LIMIT (length old.tokens) then Err code.TokenLimit else done (one_more old token))) ≡ Ok made → Listed token old made.ledger) [
+    elim (is_listed old.tokens token) as (λ b. is_listed old.tokens token ≡ b → (if b then ledger_only old else (if nat_le TOKEN_LIMIT (length old.tokens) then Err code.TokenLimit else ledger_only (one_more old token))) ≡ Ok made → Listed token old made.ledger) [
       | true ↦ λ there gives. subst (λ (k : Made (Unit {0})). Listed token old k.ledger) (same_answer (record { ledger = old; answer = tt }) made gives) (listed_already old token there)
-      | false ↦ λ absent gives. (let past = past_refusal (nat_le TOKEN_LIMIT (length old.tokens)) code.TokenLimit (done (one_more old token)) made gives in
+      | false ↦ λ absent gives. (let past = past_refusal (nat_le TOKEN_LIMIT (length old.tokens)) code.TokenLimit (ledger_only (one_more old token)) made gives in
           let told : nat_le TOKEN_LIMIT (length old.tokens) ≡ false = past.0 in
           let room : length old.tokens < TOKEN_LIMIT = grind (arith, nat_tests) in
           subst (λ (k : Made (Unit {0})). Listed token old k.ledger) (same_answer (record { ledger = one_more old token; answer = tt }) made past.1) (one_more_listed old token room))
     ] refl is
 
-module _ (old : Ledger) (token : List ℕ) (made : Made (Unit {0})) (is : list old token ≡ Ok made) where
+module _ (old : Ledger) (token : List ℕ) (made : Made (Unit {0})) (is : list_token old token ≡ Ok made) where
   named : Listed token old made.ledger
   named = list_listed old token made is
 

@@ -17,16 +17,16 @@ use Rattle.std.specs.Cmp.{both_ways}
 use Rattle.std.proofs.lemmas.Bool.{cases_lt, true≢false}
 use Rattle.std.proofs.lemmas.Map.Keys.{IsDistinct-from_apart}
 use Rattle.std.proofs.lemmas.Map.Made.{is_member-Decides, length-le_from_is_member}
-use Rattle.std.proofs.lemmas.List.{get_or-map}
+use Rattle.std.proofs.lemmas.List.{get_or-map, length-append}
 use Rattle.std.proofs.Math.ListN.{length-map}
-use Rattle.std.proofs.lemmas.List.{length-append}
 use Rattle.std.proofs.lemmas.Slice.Eq.{bytes_eq-Decides}
 use Rattle.amm_model.specs.declared.problem.TokenPlaces.{TokenPlaces}
 use Rattle.amm_model.specs.declared.problem.Part.{Part}
 use Rattle.amm_model.specs.declared.problem.ProblemPool.{ProblemPool}
 use Rattle.amm_names.specs.Pools.{is_pool_name, fee_of_digits, pool_fee}
 use Rattle.amm_model.specs.Swap.{IsFee}
-use Rattle.amm_model.specs.Routing.{Name, OpenView, ProblemView, IsOpenProblem, IsOpenProblemOf, IsProblemOf, IsBefore, fee_of, given_by_parts, one_part, opened, part_place, token0_of, token1_of, tokens_of_pools, tokens_named, token_place, places_of, no_pool}
+use Rattle.amm_model.specs.Routing.{OpenView, ProblemView, IsOpenProblem, IsOpenProblemOf, IsProblemOf, IsBefore, fee_of, given_by_parts, one_part, open_view, part_place, token0_of, token1_of, tokens_of_pools, tokens_named, token_place, places_of, no_pool}
+use Rattle.amm_names.specs.Names.{Name}
 
 pub before-less : (a b : Name) → IsBefore a b → slice_cmp nat_cmp a b ≡ Less
 before-less a b before = pick (slice_cmp nat_cmp a b) before
@@ -322,7 +322,7 @@ one_open_problem parts t pools p q of_p of_q =
 pub one_problem : (s t : Name) (d : ℕ) (pools : List ProblemPool) (p q : ProblemView) → IsProblemOf s t d pools p → IsProblemOf s t d pools q → p ≡ q
 one_problem s t d pools p q of_p of_q =
     ap (λ (o : OpenView). record { s = (get_or o.parts 0 no_part).token; t = o.t; d = (get_or o.parts 0 no_part).amount; tokens = o.tokens; pools = o.pools })
-    (one_open_problem (one_part s d) t pools (opened p) (opened q) of_p of_q)
+    (one_open_problem (one_part s d) t pools (open_view p) (open_view q) of_p of_q)
 
 -- nothing is given of a token of no part
 pub none_given : (parts : List Part) (y : Name) → All (λ (part : Part). part.token ≢ y) parts → given_by_parts parts y ≡ 0

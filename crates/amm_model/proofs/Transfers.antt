@@ -7,7 +7,9 @@ use Rattle.amm_names.specs.declared.holder.Holder.{Holder}
 use Rattle.amm_names.specs.declared.holder.Asset.{Asset}
 use Rattle.amm_model.specs.declared.fault.Refusal.TheVariants as code
 use Rattle.amm_names.specs.Order.{same_holder}
-use Rattle.amm_model.specs.Ledger.{Ledger, Made, Outcome, done, balance, total, added, taken, moved, transfer, issue, retire}
+use Rattle.amm_model.specs.Ledger.{Ledger, balance, total, with_more, with_less, with_transfer}
+use Rattle.amm_model.specs.Outcome.{Made, Outcome, ledger_only}
+use Rattle.amm_model.specs.Postings.{transfer, issue, retire}
 use Rattle.amm_model.specs.declared.limits.TheConstants.{AMOUNT_LIMIT}
 use Rattle.amm_model.proofs.Guards.{past_refusal, same_answer}
 use Rattle.amm_model.proofs.Names.{asset_cases}
@@ -55,11 +57,11 @@ transfer_sent l a f t n made is =
     let funds : n ≤ balance l a f = grind (arith, nat_tests) in
     by_test (same_holder f t) funds funded.1
   where
-    by_test : (b : Bool) → n ≤ balance l a f → (◌≡◌ {A = Outcome (Unit {0})} (if b then done l else done (moved l a f t n)) (Ok made)) → Sent a f n l made.ledger
+    by_test : (b : Bool) → n ≤ balance l a f → (◌≡◌ {A = Outcome (Unit {0})} (if b then ledger_only l else ledger_only (with_transfer l a f t n)) (Ok made)) → Sent a f n l made.ledger
     by_test true funds gives = let e = same_answer (record { ledger = l; answer = tt }) made gives in subst (λ (k : Made (Unit {0})). Sent a f n l k.ledger) e (sent_to_oneself a f n l funds)
     by_test false funds gives =
-        let e = same_answer (record { ledger = moved l a f t n; answer = tt }) made gives in
-        subst (λ (k : Made (Unit {0})). Sent a f n l k.ledger) e (sent_to_another a f t n l (taken l a f n) (moved l a f t n) funds (taken_taken l a f n funds) (added_added (taken l a f n) a t n))
+        let e = same_answer (record { ledger = with_transfer l a f t n; answer = tt }) made gives in
+        subst (λ (k : Made (Unit {0})). Sent a f n l k.ledger) e (sent_to_another a f t n l (with_less l a f n) (with_transfer l a f t n) funds (taken_taken l a f n funds) (added_added (with_less l a f n) a t n))
 
 pub retire_taken : (l : Ledger) (a : Asset) (f : Holder) (n : ℕ) (made : Made (Unit {0})) → retire l a f n ≡ Ok made → (n ≤ balance l a f) × Taken a f n l made.ledger
 unfolding retire
@@ -67,11 +69,11 @@ retire_taken l a f n made is =
     let funded = past_refusal (nat_lt (balance l a f) n) code.Funds _ made is in
     let told : nat_lt (balance l a f) n ≡ false = funded.0 in
     let funds : n ≤ balance l a f = grind (arith, nat_tests) in
-    let e = same_answer (record { ledger = taken l a f n; answer = tt }) made funded.1 in
+    let e = same_answer (record { ledger = with_less l a f n; answer = tt }) made funded.1 in
     (funds, subst (λ (k : Made (Unit {0})). Taken a f n l k.ledger) e (taken_taken l a f n funds))
 
 -- an issue within the limit is granted
-pub issue_granted : (l : Ledger) (a : Asset) (h : Holder) (n : ℕ) → total l a + n ≤ AMOUNT_LIMIT → issue l a h n ≡ done (added l a h n)
+pub issue_granted : (l : Ledger) (a : Asset) (h : Holder) (n : ℕ) → total l a + n ≤ AMOUNT_LIMIT → issue l a h n ≡ ledger_only (with_more l a h n)
 unfolding issue
 issue_granted l a h n fits =
     let room : nat_lt AMOUNT_LIMIT (total l a + n) ≡ false = le-ltb AMOUNT_LIMIT (total l a + n) fits in

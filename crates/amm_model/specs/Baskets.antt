@@ -1,6 +1,7 @@
 -- What a plan for a basket of several parts has to deliver at least.
 use Rattle.std.specs.Prelude.{ℕ, ◌≡◌, ◌+◌, ◌<◌, ◌≤◌, ◌⊎◌, ◌++◌, List, [], ◌∷◌, Contains}
-use Rattle.amm_model.specs.Routing.{Name, OpenView}
+use Rattle.amm_model.specs.Routing.{OpenView}
+use Rattle.amm_names.specs.Names.{Name}
 use Rattle.amm_model.specs.declared.problem.Part.{Part}
 use Rattle.amm_model.specs.declared.problem.ProblemPool.{ProblemPool}
 use Rattle.amm_model.specs.declared.route.Hop.{Hop}

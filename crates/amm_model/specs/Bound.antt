@@ -3,7 +3,8 @@
 use Rattle.std.specs.Prelude.{ℕ, ◌+◌, ◌-◌, ◌*◌, ◌/◌, ◌^◌, List, slice_index, sum_by, nat_lt, if◌then◌else◌}
 use Rattle.amm_model.specs.Root.{root_of}
 use Rattle.amm_model.specs.Swap.{input_weight}
-use Rattle.amm_model.specs.Routing.{Name, OpenView, fee_of, token0_of, token1_of, token_place}
+use Rattle.amm_model.specs.Routing.{OpenView, fee_of, token0_of, token1_of, token_place}
+use Rattle.amm_names.specs.Names.{Name}
 use Rattle.amm_model.specs.declared.problem.Part.{Part}
 use Rattle.amm_model.specs.declared.problem.ProblemPool.{ProblemPool}
 

@@ -3,6 +3,7 @@ use Rattle.std.specs.Prelude.{ℕ, ◌≡◌, ◌<◌, ◌≤◌, ◌^◌, ◌�
 use Rattle.std.specs.List.{zip}
 use Rattle.serde_json.specs.Data.{Data, string}
 use Rattle.serde_json.specs.Written.{compact_text}
+use Rattle.amm_names.specs.Names.{Name}
 use Rattle.amm_model.specs.declared.problem.ProblemPool.{ProblemPool}
 use Rattle.amm_model.specs.declared.route.Leg.{Leg}
 use Rattle.amm_model.specs.declared.route.Quote.{Quote}
@@ -16,7 +17,7 @@ abbrev pub pool_value : ProblemPool → Data
 pool_value pool = list (string pool.name ∷ whole pool.r0 ∷ whole pool.r1 ∷ whole pool.b0 ∷ whole pool.b1 ∷ [])
 
 -- a token and its price
-abbrev pub price_value : List ℕ × ℕ → Data
+abbrev pub price_value : Name × ℕ → Data
 price_value p = list (string p.0 ∷ whole p.1 ∷ [])
 
 -- the tokens of the problem with their prices

@@ -1,9 +1,10 @@
 -- Commands and steps as plain trees: what a line asks for, apart from where its parts lie in
 -- memory.
 use Rattle.std.specs.Prelude.{ℕ, List, [], ◌∷◌, map}
+use Rattle.amm_names.specs.Names.{Name}
 use Rattle.amm_names.specs.declared.holder.Asset.{Asset}
 use Rattle.amm_names.specs.declared.holder.Holder.{Holder}
-use Rattle.amm_model.specs.declared.path.RoutePath.{RoutePath}
+use Rattle.amm_model.specs.declared.route_path.RoutePath.{RoutePath}
 use Rattle.amm_model.specs.declared.command.AddWant.{AddWant}
 use Rattle.amm_model.specs.declared.command.RemoveWant.{RemoveWant}
 use Rattle.amm_model.specs.declared.command.Step.{Step}
@@ -16,13 +17,13 @@ mutual
   -- a step; names are the lists of their bytes
   pub data Move : Type 0 where
     transfer : Asset → Holder → ℕ → Move
-    create : List ℕ → List ℕ → ℕ → Move
-    mint : List ℕ → Holder → Move
-    burn : List ℕ → Holder → Move
-    swap : List ℕ → ℕ → ℕ → Holder → Move
-    skim : List ℕ → Holder → Move
-    sync : List ℕ → Move
-    flash : List ℕ → ℕ → ℕ → Moves → Move
+    create : Name → Name → ℕ → Move
+    mint : Name → Holder → Move
+    burn : Name → Holder → Move
+    swap : Name → ℕ → ℕ → Holder → Move
+    skim : Name → Holder → Move
+    sync : Name → Move
+    flash : Name → ℕ → ℕ → Moves → Move
     add : AddWant → Holder → ℕ → Move
     remove : RemoveWant → Holder → ℕ → Move
     swap_in : RoutePath → ℕ → ℕ → Holder → ℕ → Move
@@ -36,19 +37,19 @@ mutual
 
 -- a command
 pub data CommandView : Type 0 where
-  deposit : List ℕ → List ℕ → ℕ → CommandView
-  withdraw : List ℕ → List ℕ → ℕ → CommandView
+  deposit : Name → Name → ℕ → CommandView
+  withdraw : Name → Name → ℕ → CommandView
   time : ℕ → CommandView
-  fee_to : List ℕ → Holder → CommandView
-  setter : List ℕ → List ℕ → CommandView
+  fee_to : Name → Holder → CommandView
+  setter : Name → Name → CommandView
   quote_out : RoutePath → ℕ → CommandView
   quote_in : RoutePath → ℕ → CommandView
-  split : List ℕ → List ℕ → ℕ → CommandView
+  split : Name → Name → ℕ → CommandView
   certificate : ℕ → CommandView
-  pool : List ℕ → CommandView
+  pool : Name → CommandView
   balance : Asset → Holder → CommandView
   total : Asset → CommandView
-  act : List ℕ → Move → CommandView
+  act : Name → Move → CommandView
 
 abbrev pub moves_of : List Move → Moves
 moves_of [] = no_moves

@@ -4,7 +4,7 @@ use Rattle.std.specs.Prelude.{◌≡◌, ℕ, ⊤, suc, ◌≤◌, length, IsTru
 use Rattle.std.specs.List.{All}
 use Rattle.amm_names.specs.Names.{is_token_name}
 use Rattle.amm_names.specs.Pools.{is_pool_name}
-use Rattle.amm_model.specs.declared.path.RoutePath.{RoutePath}
+use Rattle.amm_model.specs.declared.route_path.RoutePath.{RoutePath}
 use Rattle.amm_model.specs.declared.command.AddWant.{AddWant}
 use Rattle.amm_model.specs.declared.command.RemoveWant.{RemoveWant}
 use Rattle.amm_model.specs.declared.limits.TheConstants.{AMOUNT_LIMIT, PATH_LEAST, PATH_LIMIT}

@@ -4,19 +4,19 @@ use Rattle.serde_json.specs.Data.{Data, number, array, unsigned}
 use Rattle.serde_json.specs.Find.{as_str}
 use Rattle.amm_names.specs.declared.holder.Asset.{Asset}
 use Rattle.amm_names.specs.declared.holder.Holder.{Holder}
-use Rattle.amm_names.specs.Names.{is_user_name, is_token_name}
+use Rattle.amm_names.specs.Names.{Name, is_user_name, is_token_name}
 use Rattle.amm_names.specs.Pools.{is_pool_name, is_fee}
 use Rattle.amm_names.specs.Holders.{asset_of, holder_of}
 use Rattle.amm_model.specs.declared.fault.Refusal.{Refusal}
 use Rattle.amm_model.specs.declared.fault.Refusal.TheVariants.{BadCommand}
-use Rattle.amm_model.specs.declared.path.RoutePath.{RoutePath}
+use Rattle.amm_model.specs.declared.route_path.RoutePath.{RoutePath}
 use Rattle.amm_model.specs.Outcome.{◌>>=◌}
 use Rattle.amm_model.specs.Json.{elements}
 use Rattle.amm_model.specs.declared.limits.TheConstants.{AMOUNT_LIMIT, PATH_LEAST, PATH_LIMIT}
 
 -- the value, where it passes the test
-abbrev pub fitting : {A : Type 0} → Bool → A → Result A Refusal
-fitting test x = if test then Ok x else Err BadCommand
+abbrev pub value_if : {A : Type 0} → Bool → A → Result A Refusal
+value_if test x = if test then Ok x else Err BadCommand
 
 -- a string, as its bytes
 abbrev pub as_text : Data → Result (List ℕ) Refusal
@@ -33,22 +33,22 @@ as_whole (number (unsigned n)) = Ok n
 as_whole _ = Err BadCommand
 
 -- a string that is the name of a user
-unfoldable pub as_user : Data → Result (List ℕ) Refusal
+unfoldable pub as_user : Data → Result Name Refusal
 as_user d = do
   name ← as_text d
-  fitting (is_user_name name) name
+  value_if (is_user_name name) name
 
 -- a string that is the name of a token
-unfoldable pub as_token : Data → Result (List ℕ) Refusal
+unfoldable pub as_token : Data → Result Name Refusal
 as_token d = do
   name ← as_text d
-  fitting (is_token_name name) name
+  value_if (is_token_name name) name
 
 -- a string that is the name of a pool
-unfoldable pub as_pool : Data → Result (List ℕ) Refusal
+unfoldable pub as_pool : Data → Result Name Refusal
 as_pool d = do
   name ← as_text d
-  fitting (is_pool_name name) name
+  value_if (is_pool_name name) name
 
 -- a string that is a token or a pool
 unfoldable pub as_asset : Data → Result Asset Refusal
@@ -66,13 +66,13 @@ as_holder d = do
 unfoldable pub as_amount : Data → Result ℕ Refusal
 as_amount d = do
   n ← as_whole d
-  fitting (nat_le n AMOUNT_LIMIT) n
+  value_if (nat_le n AMOUNT_LIMIT) n
 
 -- the number 1, 3 or 10
 unfoldable pub as_fee : Data → Result ℕ Refusal
 as_fee d = do
   fee ← as_whole d
-  fitting (is_fee fee) fee
+  value_if (is_fee fee) fee
 
 -- what may stand behind the arguments of a pair: a fee, or nothing for the fee of 3
 abbrev pub fee_behind : List Data → Result ℕ Refusal
@@ -83,7 +83,7 @@ fee_behind _ = Err BadCommand
 -- a token of a path, and the fee of the pool that leads to it
 pub record Hop : Type 0 where
   pub fee : ℕ
-  pub token : List ℕ
+  pub token : Name
 
 -- what follows a token of a path: where it goes on, the fee of the pool to the next token, or
 -- nothing for the fee of 3, and that token
@@ -112,4 +112,4 @@ unfoldable pub as_path : Data → Result RoutePath Refusal
 as_path d = do
   ds ← as_list d
   path ← path_along ds
-  fitting (nat_le PATH_LEAST (length path.tokens) && nat_le (length path.tokens) PATH_LIMIT) path
+  value_if (nat_le PATH_LEAST (length path.tokens) && nat_le (length path.tokens) PATH_LIMIT) path

@@ -1,7 +1,8 @@
 -- The ledger: what it has, what commands do to it, and what holds of it.
 pub mod Refusals
-pub mod Outcome
 pub mod Ledger
+pub mod Outcome
+pub mod Postings
 pub mod Root
 pub mod Swap
 pub mod Formulas

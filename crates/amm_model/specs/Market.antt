@@ -5,7 +5,8 @@ use Rattle.amm_model.specs.declared.problem.Part.{Part}
 use Rattle.amm_model.specs.declared.problem.ProblemPool.{ProblemPool}
 use Rattle.amm_model.specs.Ledger.{Ledger, pair_of}
 use Rattle.amm_model.specs.Pools.{held0, held1}
-use Rattle.amm_model.specs.Routing.{Name, OpenView, ProblemView, IsOpenProblemOf, one_part, opened}
+use Rattle.amm_model.specs.Routing.{OpenView, ProblemView, IsOpenProblemOf, one_part, open_view}
+use Rattle.amm_names.specs.Names.{Name}
 
 -- A pool with the reserves of its pair and what the ledger has at its name.
 abbrev pub pool_at : Ledger → Name → PairRecord → ProblemPool
@@ -25,4 +26,4 @@ pub record IsOpenProblemIn (ledger : Ledger) (parts : List Part) (t : Name) (pro
 
 -- The same for one part, d of s.
 abbrev pub IsProblemIn : Ledger → (s t : Name) → (d : ℕ) → ProblemView → Type 0
-IsProblemIn ledger s t d problem = IsOpenProblemIn ledger (one_part s d) t (opened problem)
+IsProblemIn ledger s t d problem = IsOpenProblemIn ledger (one_part s d) t (open_view problem)

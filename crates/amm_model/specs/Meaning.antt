@@ -1,6 +1,7 @@
 -- What each command and step does to the ledger, and what it answers.
-use Rattle.std.specs.Prelude.{ℕ, not, List, Result, Ok, Err, ok_or}
+use Rattle.std.specs.Prelude.{ℕ, not, Result, Ok, Err, ok_or}
 use Rattle.std.specs.Option.{is_none}
+use Rattle.amm_names.specs.Names.{Name}
 use Rattle.amm_names.specs.declared.holder.Holder.{Holder}
 use Rattle.amm_names.specs.declared.holder.Holder.TheVariants as holders
 use Rattle.amm_names.specs.declared.holder.Asset.{Asset}
@@ -10,8 +11,9 @@ use Rattle.amm_model.specs.declared.fault.Refusal.{Refusal}
 use Rattle.amm_model.specs.declared.fault.Refusal.TheVariants as code
 use Rattle.amm_model.specs.declared.reply.Answer.{Answer}
 use Rattle.amm_model.specs.declared.reply.Answer.TheVariants as answers
-use Rattle.amm_model.specs.Outcome.{◌>>=◌, refuse_if}
-use Rattle.amm_model.specs.Ledger.{Ledger, Outcome, done, balance, total, list, issue, retire, transfer, set_time, is_listed, pair_of}
+use Rattle.amm_model.specs.Outcome.{◌>>=◌, refuse_if, Outcome, ledger_only}
+use Rattle.amm_model.specs.Ledger.{Ledger, balance, total, is_listed, pair_of}
+use Rattle.amm_model.specs.Postings.{list_token, issue, retire, transfer, set_time}
 use Rattle.amm_model.specs.Pools.{held0, held1, supply}
 use Rattle.amm_model.specs.Operations.{mint, burn, swap, skim, sync, lend, give_back}
 use Rattle.amm_model.specs.Factory.{create, set_fee_to, set_setter}
@@ -20,49 +22,49 @@ use Rattle.amm_model.specs.CommandView as view
 use Rattle.amm_model.specs.CommandView.{CommandView, Move, Moves}
 
 -- the ledger as it is, with an answer
-abbrev pub told : Ledger → Answer → Outcome Answer
-told ledger answer = Ok (record { ledger = ledger; answer = answer })
+abbrev pub ledger_with : Ledger → Answer → Outcome Answer
+ledger_with ledger answer = Ok (record { ledger = ledger; answer = answer })
 
 -- the ledger that was made, with an answer in place of its own
-abbrev pub answering : {A : Type 0} → Answer → Outcome A → Outcome Answer
-answering answer outcome = do
+abbrev pub outcome_with : {A : Type 0} → Answer → Outcome A → Outcome Answer
+outcome_with answer outcome = do
   made ← outcome
   Ok (record { ledger = made.ledger; answer = answer })
 
 -- an asset can be spoken of where it is a listed token, or the shares of a pair that is there
-unfoldable pub known : Ledger → Asset → Result (Unit {0}) Refusal
-known ledger (assets.Token token) = refuse_if (not (is_listed ledger.tokens token)) code.UnknownToken
-known ledger (assets.Share pool) = refuse_if (is_none (pair_of ledger.pairs pool)) code.NoPair
+unfoldable pub known_asset : Ledger → Asset → Result (Unit {0}) Refusal
+known_asset ledger (assets.Token token) = refuse_if (not (is_listed ledger.tokens token)) code.UnknownToken
+known_asset ledger (assets.Share pool) = refuse_if (is_none (pair_of ledger.pairs pool)) code.NoPair
 
 -- ---- steps
 
 -- units of an asset from the actor to a holder (core, UniswapV2ERC20.transfer)
-unfoldable pub send : Ledger → (actor : List ℕ) → Asset → Holder → ℕ → Outcome Answer
+unfoldable pub send : Ledger → (actor : Name) → Asset → Holder → ℕ → Outcome Answer
 send ledger actor asset to n = do
-  _ ← known ledger asset
-  answering answers.Transfer (transfer ledger asset (holders.User actor) to n)
+  _ ← known_asset ledger asset
+  outcome_with answers.Transfer (transfer ledger asset (holders.User actor) to n)
 
 -- what an operation answers, as the answer to a step
 abbrev pub as_answer : {A : Type 0} → (A → Answer) → Outcome A → Outcome Answer
 as_answer view outcome = do
   made ← outcome
-  told made.ledger (view made.answer)
+  ledger_with made.ledger (view made.answer)
 
 -- the reserves that a record tells
-abbrev pub reserves_told : PairRecord → Answer
-reserves_told pair = answers.Sync pair.r0 pair.r1
+abbrev pub sync_reply : PairRecord → Answer
+sync_reply pair = answers.Sync pair.r0 pair.r1
 
 unfoldable mutual
   -- What a step of the actor does. A loan is lent to the actor, whose steps run, and is then given
   -- back (core, UniswapV2Pair.swap with data). A kind that is not answered yet is refused.
-  pub meaning : Ledger → (actor : List ℕ) → Move → Outcome Answer
+  pub meaning : Ledger → (actor : Name) → Move → Outcome Answer
   meaning ledger actor (view.transfer asset to n) = send ledger actor asset to n
   meaning ledger actor (view.create a b fee) = as_answer answers.Create (create ledger a b fee)
   meaning ledger actor (view.mint pool to) = as_answer answers.Mint (mint ledger pool to)
   meaning ledger actor (view.burn pool to) = as_answer answers.Burn (burn ledger pool to)
   meaning ledger actor (view.swap pool out0 out1 to) = as_answer answers.Swap (swap ledger pool out0 out1 to)
   meaning ledger actor (view.skim pool to) = as_answer answers.Skim (skim ledger pool to)
-  meaning ledger actor (view.sync pool) = as_answer reserves_told (sync ledger pool)
+  meaning ledger actor (view.sync pool) = as_answer sync_reply (sync ledger pool)
   meaning ledger actor (view.flash pool out0 out1 steps) = do
     lent ← lend ledger pool out0 out1 (holders.User actor)
     ran ← meaning_of_all lent.ledger actor steps
@@ -74,8 +76,8 @@ unfoldable mutual
   meaning ledger actor (view.settle quote deadline) = Err code.BadCommand
 
   -- what a list of steps does, one after another; the first code ends it
-  pub meaning_of_all : Ledger → (actor : List ℕ) → Moves → Outcome (Unit {0})
-  meaning_of_all ledger actor view.no_moves = done ledger
+  pub meaning_of_all : Ledger → (actor : Name) → Moves → Outcome (Unit {0})
+  meaning_of_all ledger actor view.no_moves = ledger_only ledger
   meaning_of_all ledger actor (view.move step steps) = do
     made ← meaning ledger actor step
     meaning_of_all made.ledger actor steps
@@ -83,40 +85,40 @@ unfoldable mutual
 -- ---- commands that are no steps
 
 -- units of a token into the ledger, which lists the token
-unfoldable pub deposit : Ledger → (user token : List ℕ) → ℕ → Outcome Answer
+unfoldable pub deposit : Ledger → (user token : Name) → ℕ → Outcome Answer
 deposit ledger user token n = do
-  listed ← list ledger token
+  listed ← list_token ledger token
   issued ← issue listed.ledger (assets.Token token) (holders.User user) n
-  told issued.ledger (answers.Deposit (balance issued.ledger (assets.Token token) (holders.User user)) (total issued.ledger (assets.Token token)))
+  ledger_with issued.ledger (answers.Deposit (balance issued.ledger (assets.Token token) (holders.User user)) (total issued.ledger (assets.Token token)))
 
 -- units of a token out of the ledger
-unfoldable pub withdraw : Ledger → (user token : List ℕ) → ℕ → Outcome Answer
+unfoldable pub withdraw : Ledger → (user token : Name) → ℕ → Outcome Answer
 withdraw ledger user token n = do
-  _ ← known ledger (assets.Token token)
+  _ ← known_asset ledger (assets.Token token)
   retired ← retire ledger (assets.Token token) (holders.User user) n
-  told retired.ledger (answers.Withdraw (balance retired.ledger (assets.Token token) (holders.User user)) (total retired.ledger (assets.Token token)))
+  ledger_with retired.ledger (answers.Withdraw (balance retired.ledger (assets.Token token) (holders.User user)) (total retired.ledger (assets.Token token)))
 
 -- what a command does; a kind that is not answered yet is refused
 unfoldable pub outcome_of : Ledger → CommandView → Outcome Answer
 outcome_of ledger (view.deposit user token n) = deposit ledger user token n
 outcome_of ledger (view.withdraw user token n) = withdraw ledger user token n
-outcome_of ledger (view.time n) = answering answers.Time (set_time ledger n)
-outcome_of ledger (view.fee_to actor to) = answering answers.FeeTo (set_fee_to ledger actor to)
-outcome_of ledger (view.setter actor to) = answering answers.Setter (set_setter ledger actor to)
+outcome_of ledger (view.time n) = outcome_with answers.Time (set_time ledger n)
+outcome_of ledger (view.fee_to actor to) = outcome_with answers.FeeTo (set_fee_to ledger actor to)
+outcome_of ledger (view.setter actor to) = outcome_with answers.Setter (set_setter ledger actor to)
 outcome_of ledger (view.quote_out path n) = do
   amounts ← amounts_out ledger path n
-  told ledger (answers.QuoteOut amounts)
+  ledger_with ledger (answers.QuoteOut amounts)
 outcome_of ledger (view.quote_in path n) = do
   amounts ← amounts_in ledger path n
-  told ledger (answers.QuoteIn amounts)
+  ledger_with ledger (answers.QuoteIn amounts)
 outcome_of ledger (view.pool pool) = do
   pair ← ok_or (pair_of ledger.pairs pool) code.NoPair
-  told ledger (answers.Pool pair (held0 ledger pool) (held1 ledger pool) (supply ledger pool))
+  ledger_with ledger (answers.Pool pair (held0 ledger pool) (held1 ledger pool) (supply ledger pool))
 outcome_of ledger (view.balance asset holder) = do
-  _ ← known ledger asset
-  told ledger (answers.Balance (balance ledger asset holder))
+  _ ← known_asset ledger asset
+  ledger_with ledger (answers.Balance (balance ledger asset holder))
 outcome_of ledger (view.total asset) = do
-  _ ← known ledger asset
-  told ledger (answers.Total (total ledger asset))
+  _ ← known_asset ledger asset
+  ledger_with ledger (answers.Total (total ledger asset))
 outcome_of ledger (view.act actor step) = meaning ledger actor step
 outcome_of ledger _ = Err code.BadCommand

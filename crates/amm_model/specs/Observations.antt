@@ -3,12 +3,12 @@ use Rattle.std.specs.Prelude.{ℕ, ◌≡◌, ◌+◌, ◌-◌, ◌*◌, ◌/◌
 use Rattle.amm_model.specs.declared.observation.Observation.{Observation}
 use Rattle.amm_model.specs.declared.pair.PairRecord.{PairRecord}
 use Rattle.amm_model.specs.Ledger.{Ledger}
-use Rattle.amm_model.specs.Routing.{Name}
+use Rattle.amm_names.specs.Names.{Name}
 
 -- What is kept of a pool: its name, the time, and both accumulators of its record, which an update
 -- has brought up to that time. (whitepaper, 2.2)
-abbrev pub observed : (pool : Name) → (time : ℕ) → PairRecord → Observation
-observed pool time pair = record { pool = pool; time = time; acc0 = pair.acc0; acc1 = pair.acc1 }
+abbrev pub observation_of : (pool : Name) → (time : ℕ) → PairRecord → Observation
+observation_of pool time pair = record { pool = pool; time = time; acc0 = pair.acc0; acc1 = pair.acc1 }
 
 -- The kept observations are in the order of their times, none of which is still to come.
 pub record AreInTime (ledger : Ledger) : Type 0 where
@@ -23,16 +23,16 @@ pub record IsWindow (first second : Observation) : Type 0 where
   pub short : second.time < first.time + 2 ^ 32
 
 -- By how much an accumulator grew from one reading to a later one, modulo 2^128.
-abbrev pub grown_by : (before now : ℕ) → ℕ
-grown_by before now = (now + 2 ^ 128 - before) % 2 ^ 128
+abbrev pub growth : (before now : ℕ) → ℕ
+growth before now = (now + 2 ^ 128 - before) % 2 ^ 128
 
 -- The average price of token 0 in units of token 1, and of token 1 in units of token 0, with 48
 -- binary places: the growth of the accumulator over the seconds. (whitepaper, 2.2)
 abbrev pub average0 : (first second : Observation) → ℕ
-average0 first second = grown_by first.acc0 second.acc0 / (second.time - first.time)
+average0 first second = growth first.acc0 second.acc0 / (second.time - first.time)
 
 abbrev pub average1 : (first second : Observation) → ℕ
-average1 first second = grown_by first.acc1 second.acc1 / (second.time - first.time)
+average1 first second = growth first.acc1 second.acc1 / (second.time - first.time)
 
 -- What an amount of the one token comes to in the other at an average price. (Uniswap v2 periphery,
 -- ExampleOracleSimple.consult)

@@ -1,8 +1,23 @@
--- What may be refused by a code, step by step, and what a call gives beside its definition.
+-- What an operation on the ledger gives: the ledger afterwards with its answer, or the code that
+-- refuses it; steps that may be refused; and what a call gives beside its definition.
 use Rattle.std.specs.Prelude.{◌≡◌, Bool, Result, Ok, Err, if◌then◌else◌}
 use Rattle.amm_model.specs.declared.fault.Refusal.{Refusal}
 use Rattle.amm_model.specs.declared.fault.Fault.{Fault}
 use Rattle.amm_model.specs.declared.fault.Fault.TheVariants as faults
+use Rattle.amm_model.specs.Ledger.{Ledger}
+
+-- the ledger after an operation, and its answer
+pub record Made (A : Type 0) : Type 0 where
+  pub ledger : Ledger
+  pub answer : A
+
+-- a ledger with an answer, or the code that refuses
+abbrev pub Outcome : Type 0 → Type 0
+Outcome A = Result (Made A) Refusal
+
+-- the ledger, with nothing more to say
+abbrev pub ledger_only : Ledger → Outcome (Unit {0})
+ledger_only ledger = Ok (record { ledger = ledger; answer = tt })
 
 -- what is to be done next with what was given, if something was
 infixl 10 ◌>>=◌

@@ -3,7 +3,8 @@ use Rattle.std.specs.Prelude.{ℕ, ◌≡◌, ◌≢◌, ◌+◌, ◌<◌, ◌�
 use Rattle.amm_model.specs.Swap.{amount_out_of}
 use Rattle.amm_model.specs.declared.problem.ProblemPool.{ProblemPool}
 use Rattle.amm_model.specs.declared.route.Hop.{Hop}
-use Rattle.amm_model.specs.Routing.{Name, no_pool, fee_of, token0_of, token1_of}
+use Rattle.amm_model.specs.Routing.{no_pool, fee_of, token0_of, token1_of}
+use Rattle.amm_names.specs.Names.{Name}
 use Rattle.amm_model.specs.Legs.{IsAdmissible}
 
 -- The pool of a hop, and the tokens that go in and come out.

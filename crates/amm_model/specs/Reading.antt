@@ -6,7 +6,7 @@ use Rattle.amm_model.specs.declared.fault.Refusal.{Refusal}
 use Rattle.amm_model.specs.declared.fault.Refusal.TheVariants.{BadJson, BadCommand}
 use Rattle.amm_model.specs.Outcome.{◌>>=◌}
 use Rattle.amm_model.specs.Json.{json_value, each}
-use Rattle.amm_model.specs.Forms.{fitting, as_text, as_list, as_user, as_token, as_pool, as_asset, as_holder, as_amount, as_path, fee_behind}
+use Rattle.amm_model.specs.Forms.{value_if, as_text, as_list, as_user, as_token, as_pool, as_asset, as_holder, as_amount, as_path, fee_behind}
 use Rattle.amm_model.specs.CommandView as command
 use Rattle.amm_model.specs.CommandView.{CommandView, Move, Moves, no_moves, move, moves_of}
 use Rattle.amm_model.specs.declared.limits.TheConstants.{LOAN_LIMIT, STEP_LIMIT}
@@ -276,7 +276,7 @@ abbrev pub act_row : List ℕ → List Data → Result CommandView Refusal
 act_row kind (user ∷ rest) = do
   actor ← as_user user
   m ← move_row (as_steps LOAN_LIMIT actor) kind rest
-  fitting (nat_le (steps_inside m) STEP_LIMIT) (command.act actor m)
+  value_if (nat_le (steps_inside m) STEP_LIMIT) (command.act actor m)
 act_row kind [] = Err BadCommand
 
 -- the row of a kind

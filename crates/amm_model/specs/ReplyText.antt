@@ -10,39 +10,39 @@ use Rattle.amm_model.specs.Certificate.{prices_value, legs_value, certificate_va
 use Rattle.amm_model.specs.Refusals.{refusal_number, refusal_word}
 
 -- what follows the word `ok`
-abbrev pub accepted : Answer → List Data
-accepted (answers.Refused code) = []
-accepted (answers.Deposit balance total) = whole balance ∷ whole total ∷ []
-accepted (answers.Withdraw balance total) = whole balance ∷ whole total ∷ []
-accepted answers.Transfer = []
-accepted answers.Time = []
-accepted answers.FeeTo = []
-accepted answers.Setter = []
-accepted (answers.Create pool) = string pool ∷ []
-accepted (answers.Mint receipt) = whole receipt.shares ∷ whole receipt.fee_shares ∷ []
-accepted (answers.Burn receipt) = whole receipt.amount0 ∷ whole receipt.amount1 ∷ whole receipt.fee_shares ∷ []
-accepted (answers.Swap receipt) = whole receipt.in0 ∷ whole receipt.in1 ∷ whole receipt.out0 ∷ whole receipt.out1 ∷ []
-accepted (answers.Skim receipt) = whole receipt.sent0 ∷ whole receipt.sent1 ∷ []
-accepted (answers.Flash receipt) = whole receipt.in0 ∷ whole receipt.in1 ∷ whole receipt.out0 ∷ whole receipt.out1 ∷ []
-accepted (answers.Sync r0 r1) = whole r0 ∷ whole r1 ∷ []
-accepted (answers.Add receipt) = whole receipt.a ∷ whole receipt.b ∷ whole receipt.shares ∷ []
-accepted (answers.Remove receipt) = whole receipt.a ∷ whole receipt.b ∷ []
-accepted (answers.SwapIn amounts) = list (map whole amounts) ∷ []
-accepted (answers.SwapOut amounts) = list (map whole amounts) ∷ []
-accepted (answers.QuoteOut amounts) = list (map whole amounts) ∷ []
-accepted (answers.QuoteIn amounts) = list (map whole amounts) ∷ []
-accepted (answers.Split number quote) = whole number ∷ whole quote.delivered ∷ wide quote.bound ∷ prices_value quote ∷ legs_value quote ∷ []
-accepted (answers.Settle delivered) = whole delivered ∷ []
-accepted (answers.Certificate quote) = certificate_value quote ∷ []
-accepted (answers.Pool pair b0 b1 supply) =
+abbrev pub ok_values : Answer → List Data
+ok_values (answers.Refused code) = []
+ok_values (answers.Deposit balance total) = whole balance ∷ whole total ∷ []
+ok_values (answers.Withdraw balance total) = whole balance ∷ whole total ∷ []
+ok_values answers.Transfer = []
+ok_values answers.Time = []
+ok_values answers.FeeTo = []
+ok_values answers.Setter = []
+ok_values (answers.Create pool) = string pool ∷ []
+ok_values (answers.Mint receipt) = whole receipt.shares ∷ whole receipt.fee_shares ∷ []
+ok_values (answers.Burn receipt) = whole receipt.amount0 ∷ whole receipt.amount1 ∷ whole receipt.fee_shares ∷ []
+ok_values (answers.Swap receipt) = whole receipt.in0 ∷ whole receipt.in1 ∷ whole receipt.out0 ∷ whole receipt.out1 ∷ []
+ok_values (answers.Skim receipt) = whole receipt.sent0 ∷ whole receipt.sent1 ∷ []
+ok_values (answers.Flash receipt) = whole receipt.in0 ∷ whole receipt.in1 ∷ whole receipt.out0 ∷ whole receipt.out1 ∷ []
+ok_values (answers.Sync r0 r1) = whole r0 ∷ whole r1 ∷ []
+ok_values (answers.Add receipt) = whole receipt.a ∷ whole receipt.b ∷ whole receipt.shares ∷ []
+ok_values (answers.Remove receipt) = whole receipt.a ∷ whole receipt.b ∷ []
+ok_values (answers.SwapIn amounts) = list (map whole amounts) ∷ []
+ok_values (answers.SwapOut amounts) = list (map whole amounts) ∷ []
+ok_values (answers.QuoteOut amounts) = list (map whole amounts) ∷ []
+ok_values (answers.QuoteIn amounts) = list (map whole amounts) ∷ []
+ok_values (answers.Split number quote) = whole number ∷ whole quote.delivered ∷ wide quote.bound ∷ prices_value quote ∷ legs_value quote ∷ []
+ok_values (answers.Settle delivered) = whole delivered ∷ []
+ok_values (answers.Certificate quote) = certificate_value quote ∷ []
+ok_values (answers.Pool pair b0 b1 supply) =
     whole pair.r0 ∷ whole pair.r1 ∷ whole b0 ∷ whole b1 ∷ whole supply ∷ wide pair.k_last ∷ whole pair.last ∷ wide pair.acc0 ∷ wide pair.acc1 ∷ []
-accepted (answers.Balance n) = whole n ∷ []
-accepted (answers.Total n) = whole n ∷ []
+ok_values (answers.Balance n) = whole n ∷ []
+ok_values (answers.Total n) = whole n ∷ []
 
 -- what follows the number of the line
 abbrev pub verdict : Answer → List Data
 verdict (answers.Refused code) = string (codes "no") ∷ whole (refusal_number code) ∷ string (refusal_word code) ∷ []
-verdict answer = string (codes "ok") ∷ accepted answer
+verdict answer = string (codes "ok") ∷ ok_values answer
 
 abbrev pub reply_value : Reply → Data
 reply_value reply = list (whole reply.line ∷ verdict reply.answer)

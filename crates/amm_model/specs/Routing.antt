@@ -4,7 +4,7 @@ use Rattle.std.specs.Prelude.{IsTrue, ℕ, ◌≡◌, ◌≢◌, ◌↔◌, ◌+
 use Rattle.std.specs.Coded.{Coded, code_by, coded×, coded_ℕ, coded_list}
 use Rattle.std.specs.Str.{bytes_eq}
 use Rattle.std.specs.List.{position_or_len}
-use Rattle.amm_names.specs.Names.{is_token_name}
+use Rattle.amm_names.specs.Names.{Name, is_token_name}
 use Rattle.amm_names.specs.Pools.{is_before, is_pool_name, pool_token0, pool_token1, pool_fee}
 use Rattle.amm_model.specs.Swap.{Admits}
 use Rattle.amm_model.specs.declared.problem.Part.{Part}
@@ -14,16 +14,12 @@ use Rattle.amm_model.specs.contracts.problem.Part as part
 use Rattle.amm_model.specs.contracts.problem.ProblemPool as pool
 use Rattle.amm_model.specs.declared.limits.TheConstants.{PART_LIMIT, PAIR_LIMIT}
 
--- A name, as its bytes.
-abbrev pub Name : Type 0
-Name = List ℕ
-
 -- Bring the parts, each so much of a token, to t, over the pools. The tokens are t, those of the
 -- parts and those of the pools.
 pub record OpenView : Type 0 where
   pub parts : List Part
-  pub t : List ℕ
-  pub tokens : List (List ℕ)
+  pub t : Name
+  pub tokens : List Name
   pub pools : List ProblemPool
 
 abbrev pub open_code : Coded OpenView
@@ -34,10 +30,10 @@ open_code =
 
 -- Bring d of s to t, over the pools.
 pub record ProblemView : Type 0 where
-  pub s : List ℕ
-  pub t : List ℕ
+  pub s : Name
+  pub t : Name
   pub d : ℕ
-  pub tokens : List (List ℕ)
+  pub tokens : List Name
   pub pools : List ProblemPool
 
 abbrev pub problem_code : Coded ProblemView
@@ -120,17 +116,17 @@ abbrev pub one_part : Name → ℕ → List Part
 one_part s d = record { token = s; amount = d } ∷ []
 
 -- What there is to bring is the one part.
-abbrev pub opened : ProblemView → OpenView
-opened problem = record { parts = one_part problem.s problem.d; t = problem.t; tokens = problem.tokens; pools = problem.pools }
+abbrev pub open_view : ProblemView → OpenView
+open_view problem = record { parts = one_part problem.s problem.d; t = problem.t; tokens = problem.tokens; pools = problem.pools }
 
 abbrev pub AreParts : (s t : Name) → (d : ℕ) → List ProblemPool → Type 0
 AreParts s t d pools = AreOpenParts (one_part s d) t pools
 
 abbrev pub IsProblem : ProblemView → Type 0
-IsProblem problem = IsOpenProblem (opened problem)
+IsProblem problem = IsOpenProblem (open_view problem)
 
 abbrev pub IsProblemOf : (s t : Name) → (d : ℕ) → List ProblemPool → ProblemView → Type 0
-IsProblemOf s t d pools problem = IsOpenProblemOf (one_part s d) t pools (opened problem)
+IsProblemOf s t d pools problem = IsOpenProblemOf (one_part s d) t pools (open_view problem)
 
 -- ---- prices and places
 
@@ -153,7 +149,7 @@ places_of tokens pool = record { zero = token_place tokens (token0_of pool); one
 -- ---- routes
 
 -- What goes into a pool, named by its place in the problem, and what comes out, of both its tokens.
-pub record Trade : Type 0 where
+pub record PoolTrade : Type 0 where
   pub place : ℕ
   pub in0 : ℕ
   pub in1 : ℕ
@@ -164,11 +160,11 @@ pub record Trade : Type 0 where
 abbrev pub no_pool : ProblemPool
 no_pool = record { name = []; r0 = 0; r1 = 0; b0 = 0; b1 = 0 }
 
-abbrev pub pool_of : List ProblemPool → Trade → ProblemPool
+abbrev pub pool_of : List ProblemPool → PoolTrade → ProblemPool
 pool_of pools trade = slice_index_or pools trade.place no_pool
 
 -- A trade that its pool's reserves and the rule of a swap allow.
-pub record IsTrade (pools : List ProblemPool) (trade : Trade) : Type 0 where
+pub record IsTrade (pools : List ProblemPool) (trade : PoolTrade) : Type 0 where
   pub there : trade.place < length pools
   pub within0 : trade.out0 < (pool_of pools trade).r0
   pub within1 : trade.out1 < (pool_of pools trade).r1
@@ -179,28 +175,28 @@ abbrev pub amount_in_token : Name → ProblemPool → ℕ → ℕ → ℕ
 amount_in_token token pool a0 a1 = (if bytes_eq token (token0_of pool) then a0 else 0) + (if bytes_eq token (token1_of pool) then a1 else 0)
 
 -- What the trades put into their pools of a token.
-abbrev pub put_in : List ProblemPool → List Trade → Name → ℕ
-put_in pools route token = sum_by (λ (trade : Trade). amount_in_token token (pool_of pools trade) trade.in0 trade.in1) route
+abbrev pub amount_put_in : List ProblemPool → List PoolTrade → Name → ℕ
+amount_put_in pools route token = sum_by (λ (trade : PoolTrade). amount_in_token token (pool_of pools trade) trade.in0 trade.in1) route
 
 -- What the trades take out of their pools of a token.
-abbrev pub taken_out : List ProblemPool → List Trade → Name → ℕ
-taken_out pools route token = sum_by (λ (trade : Trade). amount_in_token token (pool_of pools trade) trade.out0 trade.out1) route
+abbrev pub amount_taken_out : List ProblemPool → List PoolTrade → Name → ℕ
+amount_taken_out pools route token = sum_by (λ (trade : PoolTrade). amount_in_token token (pool_of pools trade) trade.out0 trade.out1) route
 
 -- How much of a token the parts give: the amount of its part, or nothing.
 abbrev pub given_by_parts : List Part → Name → ℕ
 given_by_parts [] token = 0
 given_by_parts (part ∷ parts) token = if bytes_eq token part.token then part.amount else given_by_parts parts token
 
-abbrev pub given : OpenView → Name → ℕ
-given problem = given_by_parts problem.parts
+abbrev pub amount_given : OpenView → Name → ℕ
+amount_given problem = given_by_parts problem.parts
 
 -- Each pool at most once, each trade by its rule; of every token no more is put in than was taken
 -- out and is given.
-pub record IsRoute (problem : OpenView) (route : List Trade) : Type 0 where
-  pub once : AllPairs (λ (a b : Trade). a.place ≢ b.place) route
+pub record IsRoute (problem : OpenView) (route : List PoolTrade) : Type 0 where
+  pub once : AllPairs (λ (a b : PoolTrade). a.place ≢ b.place) route
   pub trades : All (IsTrade problem.pools) route
-  pub covers : (token : Name) → put_in problem.pools route token ≤ taken_out problem.pools route token + given problem token
+  pub covers : (token : Name) → amount_put_in problem.pools route token ≤ amount_taken_out problem.pools route token + amount_given problem token
 
 -- What a route delivers: its net of t.
-abbrev pub delivered_by : OpenView → List Trade → ℕ
-delivered_by problem route = taken_out problem.pools route problem.t - put_in problem.pools route problem.t
+abbrev pub delivered_by : OpenView → List PoolTrade → ℕ
+delivered_by problem route = amount_taken_out problem.pools route problem.t - amount_put_in problem.pools route problem.t

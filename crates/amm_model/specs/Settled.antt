@@ -5,16 +5,16 @@ use Rattle.amm_model.specs.Routing.{OpenView, ArePrices, token_place, token0_of,
 use Rattle.amm_model.specs.Bound.{bound_of, price_of}
 
 -- A price up or down by one part in 2^k of it, and by at least 1.
-abbrev pub stepped : (k : ℕ) → (up : Bool) → (price : ℕ) → ℕ
-stepped k up price = if up then price + max 1 (price / 2 ^ k) else price - max 1 (price / 2 ^ k)
+abbrev pub price_after : (k : ℕ) → (up : Bool) → (price : ℕ) → ℕ
+price_after k up price = if up then price + max 1 (price / 2 ^ k) else price - max 1 (price / 2 ^ k)
 
 -- The price of a turn's token goes up or down.
-abbrev pub turned : (k : ℕ) → List ℕ → Turn → List ℕ
-turned k prices turn = slice_set prices turn.place (stepped k turn.up (slice_index prices turn.place))
+abbrev pub prices_after_turn : (k : ℕ) → List ℕ → Turn → List ℕ
+prices_after_turn k prices turn = slice_set prices turn.place (price_after k turn.up (slice_index prices turn.place))
 
-abbrev pub moved : (k : ℕ) → List ℕ → List Turn → List ℕ
-moved k prices [] = prices
-moved k prices (turn ∷ turns) = moved k (turned k prices turn) turns
+abbrev pub prices_after : (k : ℕ) → List ℕ → List Turn → List ℕ
+prices_after k prices [] = prices
+prices_after k prices (turn ∷ turns) = prices_after k (prices_after_turn k prices turn) turns
 
 -- The token at the place may move: it is one of the problem's, and not the target.
 abbrev pub MayMove : OpenView → ℕ → Type 0
@@ -33,8 +33,8 @@ IsMove problem (a ∷ b ∷ c ∷ more) = ⊥
 -- No move lowers the bound by more than one part in 65536 of it.
 abbrev pub NoMoveHelps : OpenView → List ℕ → Type 0
 NoMoveHelps problem prices =
-    (k : ℕ) (turns : List Turn) → 1 ≤ k → k ≤ 16 → IsMove problem turns → ArePrices (moved k prices turns) →
-    bound_of problem prices ≤ bound_of problem (moved k prices turns) + bound_of problem prices / 65536
+    (k : ℕ) (turns : List Turn) → 1 ≤ k → k ≤ 16 → IsMove problem turns → ArePrices (prices_after k prices turns) →
+    bound_of problem prices ≤ bound_of problem (prices_after k prices turns) + bound_of problem prices / 65536
 
 pub record IsSettled (problem : OpenView) (prices : List ℕ) : Type 0 where
   pub as_many : length prices ≡ length problem.tokens

@@ -9,11 +9,12 @@ use Rattle.amm_model.specs.declared.problem.ProblemPool.{ProblemPool}
 use Rattle.amm_model.specs.declared.route.Leg.{Leg}
 use Rattle.amm_model.specs.declared.route.Quote.{Quote}
 use Rattle.amm_model.specs.declared.fault.Refusal.TheVariants as code
-use Rattle.amm_model.specs.Outcome.{◌>>=◌, refuse_if}
-use Rattle.amm_model.specs.Ledger.{Ledger, Outcome, done, balance, transfer, pair_of}
+use Rattle.amm_model.specs.Outcome.{◌>>=◌, refuse_if, Outcome, ledger_only}
+use Rattle.amm_model.specs.Ledger.{Ledger, balance, pair_of}
+use Rattle.amm_model.specs.Postings.{transfer}
 use Rattle.amm_model.specs.Pools.{held0, held1}
 use Rattle.amm_model.specs.Operations.{swap}
-use Rattle.amm_model.specs.Routing.{Name}
+use Rattle.amm_names.specs.Names.{Name}
 use Rattle.amm_model.specs.Legs.{leg_pool, token_in}
 
 -- The pools of a quote's legs.
@@ -36,11 +37,11 @@ unfoldable pub perform_leg : Ledger → (actor : Name) → List ProblemPool → 
 perform_leg ledger actor pools leg = do
   paid ← transfer ledger (asset.Token (token_in pools leg)) (holder.User actor) (holder.Pool (leg_pool pools leg).name) leg.input
   swapped ← swap paid.ledger (leg_pool pools leg).name (if leg.zero_in then 0 else leg.output) (if leg.zero_in then leg.output else 0) (holder.User actor)
-  done swapped.ledger
+  ledger_only swapped.ledger
 
 -- Legs one after the other.
 unfoldable pub perform_legs : Ledger → (actor : Name) → List ProblemPool → List Leg → Outcome (Unit {0})
-perform_legs ledger actor pools [] = done ledger
+perform_legs ledger actor pools [] = ledger_only ledger
 perform_legs ledger actor pools (leg ∷ legs) = do
   made ← perform_leg ledger actor pools leg
   perform_legs made.ledger actor pools legs

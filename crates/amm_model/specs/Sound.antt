@@ -1,7 +1,8 @@
 -- What holds of the ledger at every line.
-use Rattle.std.specs.Prelude.{◌≡◌, ◌≢◌, ℕ, ◌*◌, ◌^◌, ◌<◌, ◌≤◌, ◌⊎◌, true, false, List, length, Some, IsSome}
+use Rattle.std.specs.Prelude.{◌≡◌, ◌≢◌, ◌*◌, ◌^◌, ◌<◌, ◌≤◌, ◌⊎◌, true, false, length, Some, IsSome}
 use Rattle.std.specs.Map.{keys_of}
 use Rattle.std.specs.List.{IsDistinct}
+use Rattle.amm_names.specs.Names.{Name}
 use Rattle.amm_names.specs.declared.holder.Holder.TheVariants as holder
 use Rattle.amm_names.specs.declared.holder.Asset.{Asset}
 use Rattle.amm_names.specs.declared.holder.Asset.TheVariants as asset
@@ -21,13 +22,13 @@ pub record IsSmall (pair : PairRecord) : Type 0 where
   pub acc1 : pair.acc1 < 2 ^ 128
 
 -- a pool that is not locked has its reserves
-pub record IsCovered (ledger : Ledger) (pool : List ℕ) (pair : PairRecord) : Type 0 where
+pub record IsCovered (ledger : Ledger) (pool : Name) (pair : PairRecord) : Type 0 where
   pub first : pair.r0 ≤ held0 ledger pool
   pub second : pair.r1 ≤ held1 ledger pool
 
 -- a pair of a sound ledger: its tokens are listed, its numbers fit, its pool has its reserves
 -- unless it is locked, its shares are backed, and the zero holder keeps the first of them
-pub record IsSoundPair (ledger : Ledger) (pool : List ℕ) (pair : PairRecord) : Type 0 where
+pub record IsSoundPair (ledger : Ledger) (pool : Name) (pair : PairRecord) : Type 0 where
   pub listed : (is_listed ledger.tokens (pool_token0 pool) ≡ true) × (is_listed ledger.tokens (pool_token1 pool) ≡ true)
   pub small : IsSmall pair
   pub covered : pair.locked ≡ false → IsCovered ledger pool pair
@@ -42,7 +43,7 @@ IsKnown ledger (asset.Share pool) = IsSome (pair_of ledger.pairs pool)
 -- every pair is sound and has a name of its own, totals are within their limit, only known assets
 -- are held, and the counts are within theirs
 pub record IsSound (ledger : Ledger) : Type 0 where
-  pub pairs : (pool : List ℕ) (pair : PairRecord) → pair_of ledger.pairs pool ≡ Some pair → IsSoundPair ledger pool pair
+  pub pairs : (pool : Name) (pair : PairRecord) → pair_of ledger.pairs pool ≡ Some pair → IsSoundPair ledger pool pair
   pub names : IsDistinct same_name (keys_of ledger.pairs)
   pub totals : (asset : Asset) → total ledger asset ≤ AMOUNT_LIMIT
   pub known : (asset : Asset) → total ledger asset ≢ 0 → IsKnown ledger asset
@@ -55,7 +56,7 @@ pub record IsSound (ledger : Ledger) : Type 0 where
 -- sound, and no pair is locked
 pub record IsAtRest (ledger : Ledger) : Type 0 where
   pub sound : IsSound ledger
-  pub unlocked : (pool : List ℕ) (pair : PairRecord) → pair_of ledger.pairs pool ≡ Some pair → pair.locked ≡ false
+  pub unlocked : (pool : Name) (pair : PairRecord) → pair_of ledger.pairs pool ≡ Some pair → pair.locked ≡ false
 
 -- the pair of the loan is locked, and its record is the one that the loan was made with
 pub record IsOpen (ledger : Ledger) (loan : Terms) : Type 0 where
@@ -63,5 +64,5 @@ pub record IsOpen (ledger : Ledger) (loan : Terms) : Type 0 where
   pub locked : loan.pair.locked ≡ true
 
 -- the product of the reserves did not fall
-abbrev pub ProductKept : Ledger → Ledger → List ℕ → Type 0
+abbrev pub ProductKept : Ledger → Ledger → Name → Type 0
 ProductKept old new pool = (was now : PairRecord) → pair_of old.pairs pool ≡ Some was → pair_of new.pairs pool ≡ Some now → was.r0 * was.r1 ≤ now.r0 * now.r1

@@ -1,6 +1,6 @@
 -- Which quotes answer a split, and when there is none.
 use Rattle.std.specs.Prelude.{ℕ, ◌≡◌, ◌↔◌}
-use Rattle.amm_model.specs.Routing.{ProblemView, opened}
+use Rattle.amm_model.specs.Routing.{ProblemView, open_view}
 use Rattle.amm_model.specs.Bound.{bound_of}
 use Rattle.amm_model.specs.Legs.{Delivers}
 use Rattle.amm_model.specs.Settled.{IsSettled}
@@ -12,9 +12,9 @@ use Rattle.amm_model.specs.declared.route.Quote.{Quote}
 -- prices, its legs deliver its amount, and this is at least every one-way, two-way and spread
 -- value. Route and prices are free within this.
 pub record IsSplitAnswer (quote : Quote) : Type 0 where
-  pub settled : IsSettled (opened quote.problem) quote.prices
-  pub bound : quote.bound ≡ bound_of (opened quote.problem) quote.prices
-  pub delivers : Delivers (opened quote.problem) quote.route.legs quote.delivered
+  pub settled : IsSettled (open_view quote.problem) quote.prices
+  pub bound : quote.bound ≡ bound_of (open_view quote.problem) quote.prices
+  pub delivers : Delivers (open_view quote.problem) quote.route.legs quote.delivered
   pub ways : AtLeastTheWays quote.problem.pools quote.problem.s quote.problem.t quote.problem.d quote.delivered
   pub spreads : AtLeastSpreads quote.problem quote.prices quote.delivered
 

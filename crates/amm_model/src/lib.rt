@@ -12,11 +12,11 @@ mod list;
 mod observation;
 mod pair;
 mod parts;
-mod path;
 mod prices;
 mod problem;
 mod reply;
 mod route;
+mod route_path;
 mod trade;
 
 pub use amm_names::{Asset, Holder, Memory, PoolName, TokenName, UserName};
@@ -31,7 +31,6 @@ pub use observation::Observation;
 pub use pair::{
     AddReceipt, BurnReceipt, MintReceipt, PairRecord, RemoveReceipt, SkimReceipt, SwapReceipt,
 };
-pub use path::{FeeList, RoutePath, TokenList};
 pub use prices::{Prices, Turn};
 pub use problem::{
     OpenProblem, Part, Problem, ProblemPool, TokenPlaces, parts_determine_open_problem,
@@ -39,4 +38,5 @@ pub use problem::{
 };
 pub use reply::{Answer, Reply};
 pub use route::{Hop, Leg, Quote, Route};
+pub use route_path::{FeeList, RoutePath, TokenList};
 pub use trade::{Matched, Side, Trade};

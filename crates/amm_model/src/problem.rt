@@ -3,7 +3,7 @@ ghost use Rattle.std.specs.Prelude.{◌≡◌, ◌<◌, ◌≤◌, ℕ, List, Al
 ghost use Rattle.amm_model.specs.declared.problem.Part as part_view;
 ghost use Rattle.amm_model.specs.declared.problem.ProblemPool as pool_view;
 ghost use Rattle.amm_model.specs.declared.problem.TokenPlaces as places_view;
-ghost use Rattle.amm_model.specs.Routing.{AreOpenParts, AreParts, IsOpenProblem, IsOpenProblemOf, IsProblem, IsProblemOf, OpenView, ProblemView, opened, part_place, places_of, token_place};
+ghost use Rattle.amm_model.specs.Routing.{AreOpenParts, AreParts, IsOpenProblem, IsOpenProblemOf, IsProblem, IsProblemOf, OpenView, ProblemView, open_view, part_place, places_of, token_place};
 
 use crate::parts::{are_parts, part_places_of, place_of, places_of, spelled, tokens_of};
 use crate::{PartList, ProblemPoolList};
@@ -238,7 +238,7 @@ impl Problem {
 
     /// The same problem, with what it starts from as its one part.
     pub fn as_open(&self) -> &OpenProblem
-        ensures { result.now ≡ opened self.now }
+        ensures { result.now ≡ open_view self.now }
     {
         &self.general
     }

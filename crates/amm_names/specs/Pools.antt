@@ -5,10 +5,10 @@ use Rattle.std.specs.List.{before_first, after_first}
 use Rattle.std.specs.Str.{bytes_eq}
 use Rattle.std.specs.Ordering.{is_lt, nat_cmp}
 use Rattle.std.specs.Cmp.Lexicographic.{slice_cmp}
-use Rattle.amm_names.specs.Names.{is_token_name}
+use Rattle.amm_names.specs.Names.{Name, is_token_name}
 
 -- in the order of their bytes
-abbrev pub is_before : List ℕ → List ℕ → Bool
+abbrev pub is_before : Name → Name → Bool
 is_before a b = is_lt (slice_cmp nat_cmp a b)
 
 -- the fees that a pool may have, in thousandths
@@ -20,19 +20,19 @@ abbrev pub fee_spelling : ℕ → List ℕ
 fee_spelling fee = if fee == 1 then codes ":1" else (if fee == 10 then codes ":10" else [])
 
 -- the tokens with a slash between them, and the fee
-abbrev pub pool_spelling : List ℕ → List ℕ → ℕ → List ℕ
+abbrev pub pool_spelling : Name → Name → ℕ → Name
 pool_spelling token0 token1 fee = token0 ++ 47 ∷ (token1 ++ fee_spelling fee)
 
 -- the pool of two tokens in either order; one token has none
-unfoldable pub pool_between : List ℕ → List ℕ → ℕ → Option (List ℕ)
+unfoldable pub pool_between : Name → Name → ℕ → Option Name
 pool_between a b fee = if bytes_eq a b then None else Some (if is_before a b then pool_spelling a b fee else pool_spelling b a fee)
 
 -- the parts of a spelling: up to the slash; from there up to the colon; and what the digits behind
 -- the colon say, where there are any
-unfoldable pub pool_token0 : List ℕ → List ℕ
+unfoldable pub pool_token0 : List ℕ → Name
 pool_token0 bytes = before_first (λ b. b == 47) bytes
 
-unfoldable pub pool_token1 : List ℕ → List ℕ
+unfoldable pub pool_token1 : List ℕ → Name
 pool_token1 bytes = before_first (λ b. b == 58) (after_first (λ b. b == 47) bytes)
 
 abbrev pub fee_of_digits : List ℕ → ℕ

@@ -8,9 +8,11 @@ use Rattle.amm_model.specs.declared.pair.PairRecord.{PairRecord}
 use Rattle.amm_model.specs.declared.pair.BurnReceipt.{BurnReceipt}
 use Rattle.amm_model.specs.declared.fault.Refusal.TheVariants as code
 use Rattle.amm_names.specs.Pools.{pool_token0, pool_token1}
-use Rattle.amm_model.specs.Ledger.{Ledger, Made, Pairs, retire, pair_of, with_pair}
+use Rattle.amm_model.specs.Ledger.{Ledger, Pairs, pair_of, with_pair}
+use Rattle.amm_model.specs.Outcome.{Made}
+use Rattle.amm_model.specs.Postings.{retire}
 use Rattle.amm_model.specs.Pools.{asset0, asset1, held0, held1, supply}
-use Rattle.amm_model.specs.Operations.{free_pair, updated, is_nobody, fee_due, with_fee, with_product, own_shares, parts_of, both_sent, burn, PerShareKept}
+use Rattle.amm_model.specs.Operations.{free_pair, updated_record, is_nobody, fee_due, with_fee, with_product, own_shares, burn_amounts, send_both, burn, PerShareKept}
 use Rattle.amm_model.specs.Sound.{IsCovered, IsSoundPair, IsSound}
 use Rattle.amm_pool.proofs.Products.{burned_product, covered_scaled}
 use Rattle.amm_model.proofs.Guards.{given, not_refused, same_answer}
@@ -28,12 +30,12 @@ pub record PaidOut (pool : List ℕ) (shares : ℕ) (parts : BurnReceipt) (old n
   pub taken : Taken (assets.Share pool) (holders.Pool pool) shares old fewer
   pub sent : BothSent pool parts.amount0 parts.amount1 fewer new
 
-parts_fit : (l : Ledger) (pool : List ℕ) (s fee : ℕ) → ((parts_of l pool s fee).amount0 * s ≤ own_shares l pool * held0 l pool) × ((parts_of l pool s fee).amount1 * s ≤ own_shares l pool * held1 l pool)
-unfolding parts_of
+parts_fit : (l : Ledger) (pool : List ℕ) (s fee : ℕ) → ((burn_amounts l pool s fee).amount0 * s ≤ own_shares l pool * held0 l pool) × ((burn_amounts l pool s fee).amount1 * s ≤ own_shares l pool * held1 l pool)
+unfolding burn_amounts
 parts_fit l pool s fee = (div-mul-le_self (own_shares l pool * held0 l pool) s, div-mul-le_self (own_shares l pool * held1 l pool) s)
 
-parts_fee : (l : Ledger) (pool : List ℕ) (s fee : ℕ) → (parts_of l pool s fee).fee_shares ≡ fee
-unfolding parts_of
+parts_fee : (l : Ledger) (pool : List ℕ) (s fee : ℕ) → (burn_amounts l pool s fee).fee_shares ≡ fee
+unfolding burn_amounts
 parts_fee l pool s fee = refl
 
 -- what stays against what there was, where at most the parts went out
@@ -55,7 +57,7 @@ pub record Burned (old : Ledger) (pool : List ℕ) (made : Ledger) (receipt : Bu
   pub some : supply old pool + fee_due old pool was ≢ 0
   pub fee : receipt.fee_shares ≡ fee_due old pool was
   pub mid : Ledger
-  pub paid : PaidOut pool (own_shares old pool) (parts_of old pool (supply old pool + fee_due old pool was) (fee_due old pool was)) (with_fee old pool (fee_due old pool was)) mid
+  pub paid : PaidOut pool (own_shares old pool) (burn_amounts old pool (supply old pool + fee_due old pool was) (fee_due old pool was)) (with_fee old pool (fee_due old pool was)) mid
   pub now : PairRecord
   pub renewed : Renewed mid pool was now
   pub after : made ≡ with_pair mid pool (with_product (is_nobody old.fee_to) now)
@@ -67,12 +69,12 @@ burn_burned l pool to made is =
     let was : PairRecord = first.value in
     let fee : ℕ = fee_due l pool was in
     let s : ℕ = supply l pool + fee in
-    let parts : BurnReceipt = parts_of l pool s fee in
+    let parts : BurnReceipt = burn_amounts l pool s fee in
     let some = not_refused (s == 0) code.InsufficientLiquidityBurned _ made first.after in
     let pays = not_refused (parts.amount0 == 0 || parts.amount1 == 0) code.InsufficientLiquidityBurned _ made some.1 in
     let ended = given (retire (with_fee l pool fee) (assets.Share pool) (holders.Pool pool) (own_shares l pool)) _ made pays.1 in
-    let out = given (both_sent ended.value.ledger pool parts.amount0 parts.amount1 to) _ made ended.after in
-    let second = given (updated out.value.ledger pool was) _ made out.after in
+    let out = given (send_both ended.value.ledger pool parts.amount0 parts.amount1 to) _ made ended.after in
+    let second = given (updated_record out.value.ledger pool was) _ made out.after in
     let e = same_answer (record { ledger = with_pair out.value.ledger pool (with_product (is_nobody l.fee_to) second.value); answer = parts }) made second.after in
     record {
       was = was;
@@ -102,7 +104,7 @@ module _ (l : Ledger) (pool : List ℕ) (to : Holder) (made : Made BurnReceipt) 
   s = supply l pool + fee
 
   abbrev parts : BurnReceipt
-  parts = parts_of l pool s fee
+  parts = burn_amounts l pool s fee
 
   abbrev given_fee : Ledger
   given_fee = with_fee l pool fee

@@ -6,7 +6,7 @@ use Rattle.amm_model.specs.Formulas.{IsBacked}
 use Rattle.amm_model.specs.Ledger.{Ledger, pair_of, with_pair}
 use Rattle.amm_model.specs.Pools.{held0, held1, supply}
 use Rattle.amm_model.specs.declared.limits.TheConstants.{RESERVE_LIMIT}
-use Rattle.amm_model.specs.Operations.{renewed, is_nobody, with_product, PerShareKept}
+use Rattle.amm_model.specs.Operations.{renewed_record, is_nobody, with_product, PerShareKept}
 use Rattle.amm_model.specs.Sound.{IsSmall, IsSound}
 use Rattle.amm_model.proofs.Names.{some_there, one_value, pair_of-set_here}
 use Rattle.amm_model.proofs.Soundness.{OnlyAt, only_at_then, with_pair_only}
@@ -22,7 +22,7 @@ record Closed (s b0 b1 : ℕ) (final : PairRecord) : Type 0 where
   pub backed : IsBacked s final.r0 final.r1 final.k_last
 
 closed : (nobody : Bool) (pair : PairRecord) (time s b0 b1 : ℕ) → IsSmall pair → b0 ≤ RESERVE_LIMIT → b1 ≤ RESERVE_LIMIT → s * s ≤ b0 * b1
-    → Closed s b0 b1 (with_product nobody (renewed pair time b0 b1))
+    → Closed s b0 b1 (with_product nobody (renewed_record pair time b0 b1))
 closed true pair time s b0 b1 small s0 s1 square =
     let fine = renewed_small pair time b0 b1 small s0 s1 in
     record {
@@ -41,7 +41,7 @@ closed false pair time s b0 b1 small s0 s1 square =
     }
 
 -- and its lock is as it was
-same_lock : (nobody : Bool) (pair : PairRecord) (time b0 b1 : ℕ) → (with_product nobody (renewed pair time b0 b1)).locked ≡ pair.locked
+same_lock : (nobody : Bool) (pair : PairRecord) (time b0 b1 : ℕ) → (with_product nobody (renewed_record pair time b0 b1)).locked ≡ pair.locked
 same_lock nobody pair time b0 b1 = refl
 
 -- what came before left the record of the pool, which was free, and all other pools
@@ -60,7 +60,7 @@ module _ (old : Ledger) (pool : List ℕ) (made : Ledger) (e : Ended old pool ma
   nobody = is_nobody old.fee_to
 
   abbrev final : PairRecord
-  final = with_product nobody (renewed e.was e.mid.time (held0 e.mid pool) (held1 e.mid pool))
+  final = with_product nobody (renewed_record e.was e.mid.time (held0 e.mid pool) (held1 e.mid pool))
 
   made_is : made ≡ with_pair e.mid pool final
   made_is = e.after ∙ ap (λ (p : PairRecord). with_pair e.mid pool (with_product nobody p)) e.renewed.is

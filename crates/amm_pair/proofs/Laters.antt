@@ -9,9 +9,10 @@ use Rattle.amm_model.specs.declared.pair.MintReceipt.{MintReceipt}
 use Rattle.amm_model.specs.declared.pair.BurnReceipt.{BurnReceipt}
 use Rattle.amm_model.specs.declared.pair.SwapReceipt.{SwapReceipt}
 use Rattle.amm_model.specs.declared.pair.SkimReceipt.{SkimReceipt}
-use Rattle.amm_model.specs.Ledger.{Ledger, Made, Pairs, pair_of, with_pair}
+use Rattle.amm_model.specs.Ledger.{Ledger, Pairs, pair_of, with_pair}
+use Rattle.amm_model.specs.Outcome.{Made}
 use Rattle.amm_model.specs.Pools.{Terms}
-use Rattle.amm_model.specs.Operations.{sync, skim, lend, open_loan, give_back, swap, mint, burn, locked, unlocked}
+use Rattle.amm_model.specs.Operations.{sync, skim, lend, open_loan, give_back, swap, mint, burn, locked_pair, unlocked_pair}
 use Rattle.amm_model.specs.Laws.{ZeroKept}
 use Rattle.amm_model.specs.Sound.{ProductKept}
 use Rattle.amm_model.specs.Later.{Later}
@@ -57,7 +58,7 @@ module _ (ledger : Ledger) (pool : List ℕ) (out0 out1 : ℕ) (to : Holder) (le
   home : OnlyAt pool back made.ledger
   home = returned_only back pool made.ledger r
 
-  freed : pair_of made.ledger.pairs pool ≡ Some (unlocked r.now)
+  freed : pair_of made.ledger.pairs pool ≡ Some (unlocked_pair r.now)
   freed = returned_there back pool made.ledger r
 
   pub later_loan : Later ledger made.ledger
@@ -69,7 +70,7 @@ module _ (ledger : Ledger) (pool : List ℕ) (out0 out1 : ℕ) (to : Holder) (le
     quotes = home.quotes ∙ within.quotes ∙ out.quotes;
     observations = home.observations ∙ within.observations ∙ out.observations;
     stays = λ other is. elim (name_cases other pool) [
-      | inl e ↦ some_there (pair_of made.ledger.pairs other) (unlocked r.now) (ap (pair_of made.ledger.pairs) e ∙ freed)
+      | inl e ↦ some_there (pair_of made.ledger.pairs other) (unlocked_pair r.now) (ap (pair_of made.ledger.pairs) e ∙ freed)
       | inr apart ↦ subst (λ (o : Option PairRecord). IsSome o) (sym (home.pairs other apart)) (within.stays other (subst (λ (o : Option PairRecord). IsSome o) (sym (out.pairs other apart)) is))
     ];
     locked = λ other pair is shut. elim (name_cases other pool) [
@@ -77,7 +78,7 @@ module _ (ledger : Ledger) (pool : List ℕ) (out0 out1 : ℕ) (to : Holder) (le
       | inr apart ↦ home.pairs other apart ∙ within.locked other pair (out.pairs other apart ∙ is) shut
     ];
     no_other = λ other pair is shut. elim (name_cases other pool) [
-      | inl e ↦ absurd (free_not_locked (unlocked r.now) pair refl (one_value (pair_of made.ledger.pairs pool) (unlocked r.now) pair freed (ap (pair_of made.ledger.pairs) (sym e) ∙ is)) shut)
+      | inl e ↦ absurd (free_not_locked (unlocked_pair r.now) pair refl (one_value (pair_of made.ledger.pairs pool) (unlocked_pair r.now) pair freed (ap (pair_of made.ledger.pairs) (sym e) ∙ is)) shut)
       | inr apart ↦ sym (out.pairs other apart) ∙ within.no_other other pair (sym (home.pairs other apart) ∙ is) shut
     ];
     totals = λ token. home.totals (assets.Token token) (share_not_token pool token) ∙ within.totals token ∙ out.totals (assets.Token token) (share_not_token pool token);
@@ -92,15 +93,15 @@ module _ (ledger : Ledger) (pool : List ℕ) (out0 out1 : ℕ) (to : Holder) (le
   pub loan_product : ProductKept back made.ledger pool → ProductKept ledger made.ledger pool
   loan_product kept was now at_old at_new =
       let e : l.was ≡ was = one_value (pair_of ledger.pairs pool) l.was was l.found.there at_old in
-      let still : pair_of back.pairs pool ≡ Some (locked l.was) = within.locked pool (locked l.was) (lent_there ledger pool out0 out1 lent l) refl in
-      subst (λ (p : PairRecord). p.r0 * p.r1 ≤ now.r0 * now.r1) e (kept (locked l.was) now still at_new)
+      let still : pair_of back.pairs pool ≡ Some (locked_pair l.was) = within.locked pool (locked_pair l.was) (lent_there ledger pool out0 out1 lent l) refl in
+      subst (λ (p : PairRecord). p.r0 * p.r1 ≤ now.r0 * now.r1) e (kept (locked_pair l.was) now still at_new)
 
 -- with the record set back, a return has changed nothing
 pub give_back_undone : (back : Ledger) (pool : List ℕ) (out0 out1 : ℕ) (made : Made SwapReceipt) (pair : PairRecord) → pair_of back.pairs pool ≡ Some pair → give_back back pool out0 out1 ≡ Ok made
     → with_pair made.ledger pool pair ≡ back
 give_back_undone back pool out0 out1 made pair there returns =
     let r = give_back_returned back pool out0 out1 made returns in
-    ap (λ (k : Ledger). with_pair k pool pair) r.after ∙ ap (λ (ps : Pairs). record back { pairs = ps }) (set_pair-back back.pairs pool pair (unlocked r.now) there)
+    ap (λ (k : Ledger). with_pair k pool pair) r.after ∙ ap (λ (ps : Pairs). record back { pairs = ps }) (set_pair-back back.pairs pool pair (unlocked_pair r.now) there)
 
 -- a loan with its terms is a loan
 pub record Opened (ledger : Ledger) (pool : List ℕ) (out0 out1 : ℕ) (to : Holder) (made : Made Terms) : Type 0 where

@@ -11,11 +11,13 @@ use Rattle.amm_model.specs.declared.pair.PairRecord.{PairRecord}
 use Rattle.amm_model.specs.declared.pair.SkimReceipt.{SkimReceipt}
 use Rattle.amm_model.specs.declared.fault.Refusal.TheVariants as code
 use Rattle.amm_names.specs.Pools.{pool_token0, pool_token1}
-use Rattle.amm_model.specs.Formulas.{IsBacked, grown}
-use Rattle.amm_model.specs.Ledger.{Ledger, Made, Pairs, balance, total, pair_of, set_pair, with_pair, transfer, is_listed}
+use Rattle.amm_model.specs.Formulas.{IsBacked, accumulator_after}
+use Rattle.amm_model.specs.Ledger.{Ledger, Pairs, balance, total, pair_of, set_pair, with_pair, is_listed}
+use Rattle.amm_model.specs.Outcome.{Made}
+use Rattle.amm_model.specs.Postings.{transfer}
 use Rattle.amm_model.specs.declared.limits.TheConstants.{AMOUNT_LIMIT, FIRST_LOCKED, RESERVE_LIMIT}
 use Rattle.amm_model.specs.Pools.{asset0, asset1, held0, held1, supply}
-use Rattle.amm_model.specs.Operations.{if_free, free_pair, renewed, updated_to, updated, sync, both_sent, skim, excess}
+use Rattle.amm_model.specs.Operations.{if_free, free_pair, renewed_record, updated_record_to, updated_record, sync, send_both, skim, excess}
 use Rattle.amm_model.specs.Sound.{IsSmall, IsCovered, IsSoundPair, IsSound}
 use Rattle.amm_model.proofs.Guards.{given, past_refusal, same_answer}
 use Rattle.amm_model.proofs.Names.{some_there, pair_of-set_here}
@@ -40,19 +42,19 @@ free_found ledger pool pair is = found ledger pool _ pair refl is
 
 -- what an update makes of a record
 pub record Renewed (ledger : Ledger) (pool : List ℕ) (pair new : PairRecord) : Type 0 where
-  pub is : new ≡ renewed pair ledger.time (held0 ledger pool) (held1 ledger pool)
+  pub is : new ≡ renewed_record pair ledger.time (held0 ledger pool) (held1 ledger pool)
   pub small0 : held0 ledger pool ≤ RESERVE_LIMIT
   pub small1 : held1 ledger pool ≤ RESERVE_LIMIT
 
-pub updated_renewed : (ledger : Ledger) (pool : List ℕ) (pair new : PairRecord) → updated ledger pool pair ≡ Ok new → Renewed ledger pool pair new
-unfolding updated_to
+pub updated_renewed : (ledger : Ledger) (pool : List ℕ) (pair new : PairRecord) → updated_record ledger pool pair ≡ Ok new → Renewed ledger pool pair new
+unfolding updated_record_to
 updated_renewed ledger pool pair new is =
     let first = past_refusal (nat_lt RESERVE_LIMIT (held0 ledger pool)) code.Overflow _ new is in
     let second = past_refusal (nat_lt RESERVE_LIMIT (held1 ledger pool)) code.Overflow _ new first.1 in
     let told0 : nat_lt RESERVE_LIMIT (held0 ledger pool) ≡ false = first.0 in
     let told1 : nat_lt RESERVE_LIMIT (held1 ledger pool) ≡ false = second.0 in
     record {
-      is = sym (same_answer (renewed pair ledger.time (held0 ledger pool) (held1 ledger pool)) new second.1);
+      is = sym (same_answer (renewed_record pair ledger.time (held0 ledger pool) (held1 ledger pool)) new second.1);
       small0 = grind (arith, nat_tests);
       small1 = grind (arith, nat_tests);
     }
@@ -62,11 +64,11 @@ kept_or_wrapped true c acc n small = small
 kept_or_wrapped false true acc n small = small
 kept_or_wrapped false false acc n small = omega arith
 
-grown-small : (acc p q e : ℕ) → acc < 2 ^ 128 → grown acc p q e < 2 ^ 128
+grown-small : (acc p q e : ℕ) → acc < 2 ^ 128 → accumulator_after acc p q e < 2 ^ 128
 grown-small acc p q e small = kept_or_wrapped (nat_eq p 0) (nat_eq q 0) acc _ small
 
 -- the renewed record is within the widths
-pub renewed_small : (pair : PairRecord) (time b0 b1 : ℕ) → IsSmall pair → b0 ≤ RESERVE_LIMIT → b1 ≤ RESERVE_LIMIT → IsSmall (renewed pair time b0 b1)
+pub renewed_small : (pair : PairRecord) (time b0 b1 : ℕ) → IsSmall pair → b0 ≤ RESERVE_LIMIT → b1 ≤ RESERVE_LIMIT → IsSmall (renewed_record pair time b0 b1)
 renewed_small pair time b0 b1 small s0 s1 = record {
   r0 = s0;
   r1 = s1;
@@ -115,7 +117,7 @@ pub sync_synced : (ledger : Ledger) (pool : List ℕ) (made : Made PairRecord) �
 unfolding sync
 sync_synced ledger pool made is =
     let first = given (free_pair ledger pool) _ made is in
-    let second = given (updated ledger pool first.value) _ made first.after in
+    let second = given (updated_record ledger pool first.value) _ made first.after in
     record {
       was = first.value;
       found = free_found ledger pool first.value first.was;
@@ -129,7 +131,7 @@ sync_sound ledger pool made sound is =
     let done = sync_synced ledger pool made is in
     let before = sound.pairs pool done.was done.found.there in
     let covers = before.covered done.found.free in
-    let new = renewed done.was ledger.time (held0 ledger pool) (held1 ledger pool) in
+    let new = renewed_record done.was ledger.time (held0 ledger pool) (held1 ledger pool) in
     let up : done.was.r0 * done.was.r1 ≤ held0 ledger pool * held1 ledger pool = mul-le-mul covers.first covers.second in
     let settled : IsSound (with_pair ledger pool new) =
     settled_sound pool ledger ledger done.was new sound done.found.there (same_only pool ledger) done.found.there (sound.totals (assets.Share pool))
@@ -143,8 +145,8 @@ pub record BothSent (pool : List ℕ) (n0 n1 : ℕ) (old new : Ledger) : Type 0 
   pub first : Sent (asset0 pool) (holders.Pool pool) n0 old half
   pub second : Sent (asset1 pool) (holders.Pool pool) n1 half new
 
-pub both_sent_each : (l : Ledger) (pool : List ℕ) (n0 n1 : ℕ) (to : Holder) (made : Made (Unit {0})) → both_sent l pool n0 n1 to ≡ Ok made → BothSent pool n0 n1 l made.ledger
-unfolding both_sent
+pub both_sent_each : (l : Ledger) (pool : List ℕ) (n0 n1 : ℕ) (to : Holder) (made : Made (Unit {0})) → send_both l pool n0 n1 to ≡ Ok made → BothSent pool n0 n1 l made.ledger
+unfolding send_both
 both_sent_each l pool n0 n1 to made is =
     let first = given (transfer l (asset0 pool) (holders.Pool pool) to n0) _ made is in
     record {
@@ -189,7 +191,7 @@ skim_skimmed ledger pool to made is =
     let first = given (free_pair ledger pool) _ made is in
     let n0 : ℕ = held0 ledger pool - first.value.r0 in
     let n1 : ℕ = held1 ledger pool - first.value.r1 in
-    let second = given (both_sent ledger pool n0 n1 to) _ made first.after in
+    let second = given (send_both ledger pool n0 n1 to) _ made first.after in
     let e = same_answer (record { ledger = second.value.ledger; answer = excess ledger pool first.value }) made second.after in
     record {
       was = first.value;

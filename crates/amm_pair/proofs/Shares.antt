@@ -13,10 +13,11 @@ use Rattle.amm_model.specs.declared.fault.Refusal.TheVariants as code
 use Rattle.amm_names.specs.Pools.{pool_token0, pool_token1}
 use Rattle.amm_model.specs.Formulas.{IsBacked, fee_shares_of, later_shares_of}
 use Rattle.amm_model.specs.Root.{root_of}
-use Rattle.amm_model.specs.Ledger.{Ledger, Made, Pairs, balance, total, added, pair_of, with_pair}
+use Rattle.amm_model.specs.Ledger.{Ledger, Pairs, balance, total, with_more, pair_of, with_pair}
+use Rattle.amm_model.specs.Outcome.{Made}
 use Rattle.amm_model.specs.declared.limits.TheConstants.{AMOUNT_LIMIT, FIRST_LOCKED}
 use Rattle.amm_model.specs.Pools.{asset0, asset1, held0, held1, supply}
-use Rattle.amm_model.specs.Operations.{free_pair, updated, is_nobody, fee_due, with_fee, with_product, shares_for, with_shares, mint, PerShareKept}
+use Rattle.amm_model.specs.Operations.{free_pair, updated_record, is_nobody, fee_due, with_fee, with_product, shares_for, with_shares, mint, PerShareKept}
 use Rattle.amm_model.specs.Sound.{IsCovered, IsSoundPair, IsSound}
 use Rattle.amm_model.proofs.LedgerLemmas.{balance_within_total}
 use Rattle.amm_model.proofs.Guards.{given, not_refused, same_answer}
@@ -54,7 +55,7 @@ pub record Grown (pool : List ℕ) (n : ℕ) (old new : Ledger) : Type 0 where
   pub totals : (q : Asset) → q ≢ assets.Share pool → total new q ≡ total old q
 
 added_grown : (pool : List ℕ) (h : Holder) (n : ℕ) (old new : Ledger) → Added (assets.Share pool) h n old new → Grown pool n old new
-added_grown pool h n old new added = record { rest = added.rest; grown = added.grown; others = added.others; whole = added.whole; totals = added.totals }
+added_grown pool h n old new with_more = record { rest = with_more.rest; grown = with_more.grown; others = with_more.others; whole = with_more.whole; totals = with_more.totals }
 
 none_grown : (pool : List ℕ) (n : ℕ) (l : Ledger) → n ≡ 0 → Grown pool n l l
 none_grown pool n l none = record { rest = rest_same l; grown = λ q p. omega arith; others = λ q p apart. refl; whole = omega arith; totals = λ q apart. refl }
@@ -72,7 +73,7 @@ pub fee_grown : (l : Ledger) (pool : List ℕ) (fee : ℕ) → Grown pool fee l 
 unfolding with_fee
 fee_grown l pool fee = by_test (fee == 0) refl
   where
-    by_test : (b : Bool) → (fee == 0) ≡ b → Grown pool fee l (if b then l else added l (assets.Share pool) l.fee_to fee)
+    by_test : (b : Bool) → (fee == 0) ≡ b → Grown pool fee l (if b then l else with_more l (assets.Share pool) l.fee_to fee)
     by_test true e = none_grown pool fee l (eqb-true fee 0 e)
     by_test false e = added_grown pool l.fee_to fee l _ (added_added l (assets.Share pool) l.fee_to fee)
 
@@ -82,10 +83,10 @@ pub record Shared (pool : List ℕ) (before n : ℕ) (old new : Ledger) : Type 0
   pub first : before ≡ 0 → FIRST_LOCKED ≤ balance new (assets.Share pool) holders.Zero
 
 shares_by : (l : Ledger) (pool : List ℕ) (to : Holder) (before n : ℕ) (b : Bool) → (before == 0) ≡ b
-    → Grown pool (n + (if b then FIRST_LOCKED else 0)) l (if b then added (added l (assets.Share pool) to n) (assets.Share pool) holders.Zero FIRST_LOCKED else added l (assets.Share pool) to n)
-    × (before ≡ 0 → FIRST_LOCKED ≤ balance (if b then added (added l (assets.Share pool) to n) (assets.Share pool) holders.Zero FIRST_LOCKED else added l (assets.Share pool) to n) (assets.Share pool) holders.Zero)
+    → Grown pool (n + (if b then FIRST_LOCKED else 0)) l (if b then with_more (with_more l (assets.Share pool) to n) (assets.Share pool) holders.Zero FIRST_LOCKED else with_more l (assets.Share pool) to n)
+    × (before ≡ 0 → FIRST_LOCKED ≤ balance (if b then with_more (with_more l (assets.Share pool) to n) (assets.Share pool) holders.Zero FIRST_LOCKED else with_more l (assets.Share pool) to n) (assets.Share pool) holders.Zero)
 shares_by l pool to before n true e =
-    let mid : Ledger = added l (assets.Share pool) to n in
+    let mid : Ledger = with_more l (assets.Share pool) to n in
     let last = added_added mid (assets.Share pool) holders.Zero FIRST_LOCKED in (
       grown_then pool n FIRST_LOCKED l mid _ (added_grown pool to n l mid (added_added l (assets.Share pool) to n)) (added_grown pool holders.Zero FIRST_LOCKED mid _ last),
       λ none. omega (arith, last.here),
@@ -93,7 +94,7 @@ shares_by l pool to before n true e =
 shares_by l pool to before n false e =
     let more = added_added l (assets.Share pool) to n in
     let same : n ≡ n + 0 = omega arith in (
-      subst (λ (k : ℕ). Grown pool k l (added l (assets.Share pool) to n)) same (added_grown pool to n l _ more),
+      subst (λ (k : ℕ). Grown pool k l (with_more l (assets.Share pool) to n)) same (added_grown pool to n l _ more),
       λ none. absurd (both_ways (before == 0) e (eq-eqb before 0 none)),
     )
 
@@ -149,7 +150,7 @@ mint_minted l pool to made is =
     let n : ℕ = shares_for l pool was (supply l pool + fee) in
     let some = not_refused (n == 0) code.InsufficientLiquidityMinted _ made first.after in
     let mid : Ledger = minted l pool to fee n in
-    let second = given (updated mid pool was) _ made some.1 in
+    let second = given (updated_record mid pool was) _ made some.1 in
     let e = same_answer (record { ledger = with_pair mid pool (with_product (is_nobody l.fee_to) second.value); answer = record { shares = n; fee_shares = fee } }) made second.after in
     record {
       was = was;

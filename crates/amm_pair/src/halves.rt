@@ -1,7 +1,7 @@
 //! The two halves of a swap and of a loan: what a pool may lend, and the test of what comes back.
 ghost use Rattle.std.specs.Prelude.{◌≡◌, ◌≤◌, Some, IsSome, IfOk, OnErr};
 ghost use Rattle.amm_model.specs.Ledger.{pair_of};
-ghost use Rattle.amm_model.specs.Operations.{came_to, is_token_of, lendable, settled};
+ghost use Rattle.amm_model.specs.Operations.{came_to, is_token_of, lending_pair, settle_swap};
 ghost use Rattle.amm_model.specs.Sound.{IsSmall, IsSound};
 ghost use Rattle.amm_state.specs.Tx.{Meets};
 
@@ -13,7 +13,7 @@ use amm_state::{Book, Mark, Tx};
 use std::alloc::Global;
 
 /// The pair, if it may lend these outputs to the receiver.
-#[tactic(auto, unfolding(amm_model::specs::Operations::lendable))]
+#[tactic(auto, unfolding(amm_model::specs::Operations::lending_pair))]
 pub(crate) fn lendable(
     book: &Book,
     pool: &PoolName,
@@ -22,7 +22,7 @@ pub(crate) fn lendable(
     to: &Holder,
 ) -> Result<PairRecord, Refusal>
     requires { IsSound book.now.ledger }
-    ensures value { result ≡ lendable book.now.ledger pool.now out0 out1 to.now }
+    ensures value { result ≡ lending_pair book.now.ledger pool.now out0 out1 to.now }
     ensures there { IfOk result (λ pair. pair_of book.now.ledger.pairs pool.now ≡ Some pair) }
     ensures small { IfOk result (λ pair. IsSmall pair) }
 {
@@ -50,7 +50,7 @@ fn is_token_of(pool: &PoolName, to: &Holder) -> bool
 }
 
 /// Tests what has come in since this record, locked or not, lent, and frees the pair.
-#[tactic(auto, unfolding(amm_model::specs::Operations::settled))]
+#[tactic(auto, unfolding(amm_model::specs::Operations::settle_swap))]
 pub(crate) fn settle(
     alloc: Global,
     tx: &mut Tx,
@@ -62,7 +62,7 @@ pub(crate) fn settle(
     requires clean { tx.old.mark ≡ Mark.Clean }
     requires small { IsSmall pair.now }
     requires there { IsSome (pair_of tx.old.present.pairs pool.now) }
-    ensures meets { Meets tx.old tx.new result (settled tx.old.present pool.now pair.now out0 out1) }
+    ensures meets { Meets tx.old tx.new result (settle_swap tx.old.present pool.now pair.now out0 out1) }
     ensures kept { OnErr result (tx.new.present ≡ tx.old.present) }
 {
     let b0 = held0(tx.book(), pool);

@@ -2,10 +2,11 @@
 ghost use Rattle.std.specs.Prelude.{◌≡◌, ◌≢◌, ◌≤◌};
 ghost use Rattle.amm_names.specs.declared.holder.Holder.TheVariants as holders;
 ghost use Rattle.amm_names.specs.Pools.{pool_token0, pool_token1};
-ghost use Rattle.amm_model.specs.Ledger.{total, transfer};
+ghost use Rattle.amm_model.specs.Ledger.{total};
+ghost use Rattle.amm_model.specs.Postings.{transfer};
 ghost use Rattle.amm_model.specs.declared.limits.TheConstants.{AMOUNT_LIMIT};
 ghost use Rattle.amm_model.specs.Pools.{asset0, asset1, held0, held1, supply};
-ghost use Rattle.amm_model.specs.Operations.{both_sent, own_shares};
+ghost use Rattle.amm_model.specs.Operations.{send_both, own_shares};
 ghost use Rattle.amm_state.specs.Tx.{Meets};
 
 use amm_model::{Asset, Fault, Holder, PoolName};
@@ -63,7 +64,7 @@ fn send1(alloc: Global, tx: &mut Tx, pool: &PoolName, to: &Holder, n: u64) -> Re
 }
 
 /// Sends units of both tokens from the pool.
-#[tactic(auto, unfolding(amm_model::specs::Operations::both_sent))]
+#[tactic(auto, unfolding(amm_model::specs::Operations::send_both))]
 pub(crate) fn send_both(
     alloc: Global,
     tx: &mut Tx,
@@ -73,7 +74,7 @@ pub(crate) fn send_both(
     to: &Holder,
 ) -> Result<(), Fault>
     requires { tx.old.mark ≡ Mark.Clean }
-    ensures { Meets tx.old tx.new result (both_sent tx.old.present pool.now n0 n1 to.now) }
+    ensures { Meets tx.old tx.new result (send_both tx.old.present pool.now n0 n1 to.now) }
 {
     send0(alloc, tx, pool, to, n0)?;
     send1(alloc, tx, pool, to, n1)

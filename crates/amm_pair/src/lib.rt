@@ -9,8 +9,8 @@
 
 mod halves;
 mod holdings;
-mod liquidity;
 mod loans;
+mod mint_burn;
 mod protocol;
 mod records;
 mod surplus;
@@ -18,7 +18,7 @@ mod swaps;
 #[cfg(test)]
 mod tests;
 
-pub use liquidity::{burn, mint};
 pub use loans::{Loan, abandon_loan, close_loan, open_loan};
+pub use mint_burn::{burn, mint};
 pub use surplus::{skim, sync};
 pub use swaps::swap;

@@ -1,7 +1,8 @@
 //! Shares of a pool: those that a mint gives, and those that the protocol gets before.
 ghost use Rattle.std.specs.Prelude.{◌≡◌, ◌+◌, ◌*◌, ◌≤◌, ◌<◌, ◌==◌, if◌then◌else◌, OnOk};
 ghost use Rattle.amm_names.specs.declared.holder.Asset.TheVariants as assets;
-ghost use Rattle.amm_model.specs.Ledger.{done, added};
+ghost use Rattle.amm_model.specs.Ledger.{with_more};
+ghost use Rattle.amm_model.specs.Outcome.{ledger_only};
 ghost use Rattle.amm_model.specs.declared.limits.TheConstants.{AMOUNT_LIMIT, RESERVE_LIMIT, FIRST_LOCKED};
 ghost use Rattle.amm_model.specs.Pools.{supply};
 ghost use Rattle.amm_model.specs.Operations.{is_nobody, fee_due, with_fee, with_shares, with_product};
@@ -54,7 +55,7 @@ pub(crate) fn with_product(nobody: bool, pair: &PairRecord) -> PairRecord
 fn add_shares(alloc: Global, tx: &mut Tx, pool: &PoolName, to: &Holder, n: u64) -> Result<(), Fault>
     requires clean { tx.old.mark ≡ Mark.Clean }
     requires room { supply tx.old.present pool.now + n ≤ AMOUNT_LIMIT }
-    ensures meets { Meets tx.old tx.new result (done (added tx.old.present (assets.Share pool.now) to.now n)) }
+    ensures meets { Meets tx.old tx.new result (ledger_only (with_more tx.old.present (assets.Share pool.now) to.now n)) }
     ensures whole { OnOk result (supply tx.new.present pool.now ≡ supply tx.old.present pool.now + n) }
     ensures pairs { OnOk result (tx.new.present.pairs ≡ tx.old.present.pairs) }
 {
@@ -66,7 +67,7 @@ fn add_shares(alloc: Global, tx: &mut Tx, pool: &PoolName, to: &Holder, n: u64) 
 pub(crate) fn take_fee(alloc: Global, tx: &mut Tx, pool: &PoolName, fee: u64) -> Result<(), Fault>
     requires clean { tx.old.mark ≡ Mark.Clean }
     requires room { supply tx.old.present pool.now + fee ≤ AMOUNT_LIMIT }
-    ensures meets { Meets tx.old tx.new result (done (with_fee tx.old.present pool.now fee)) }
+    ensures meets { Meets tx.old tx.new result (ledger_only (with_fee tx.old.present pool.now fee)) }
     ensures whole { OnOk result (supply tx.new.present pool.now ≡ supply tx.old.present pool.now + fee) }
     ensures pairs { OnOk result (tx.new.present.pairs ≡ tx.old.present.pairs) }
 {
@@ -89,7 +90,7 @@ pub(crate) fn give_shares(
 ) -> Result<(), Fault>
     requires clean { tx.old.mark ≡ Mark.Clean }
     requires room { supply tx.old.present pool.now + n + (if before == 0 then FIRST_LOCKED else 0) ≤ AMOUNT_LIMIT }
-    ensures meets { Meets tx.old tx.new result (done (with_shares tx.old.present pool.now to.now before n)) }
+    ensures meets { Meets tx.old tx.new result (ledger_only (with_shares tx.old.present pool.now to.now before n)) }
     ensures pairs { OnOk result (tx.new.present.pairs ≡ tx.old.present.pairs) }
 {
     if before > 0 {

@@ -1,7 +1,7 @@
 //! The record of a pair, as it is and as an update leaves it.
 ghost use Rattle.std.specs.Prelude.{◌≡◌, ◌≤◌, Some, IfOk};
 ghost use Rattle.amm_model.specs.Ledger.{pair_of};
-ghost use Rattle.amm_model.specs.Operations.{free_pair, updated_to};
+ghost use Rattle.amm_model.specs.Operations.{free_pair, updated_record_to};
 ghost use Rattle.amm_model.specs.Pools.{supply};
 ghost use Rattle.amm_model.specs.declared.limits.TheConstants.{RESERVE_LIMIT};
 ghost use Rattle.amm_model.specs.Sound.{IsSound, IsSmall, IsCovered};
@@ -33,9 +33,9 @@ pub(crate) fn free_pair(book: &Book, pool: &PoolName) -> Result<PairRecord, Refu
 }
 
 /// The record with these balances as its reserves, if they are at most 2^48-1.
-#[tactic(auto, unfolding(amm_model::specs::Operations::updated_to))]
+#[tactic(auto, unfolding(amm_model::specs::Operations::updated_record_to))]
 pub(crate) fn updated(pair: &PairRecord, time: u64, b0: u64, b1: u64) -> Result<PairRecord, Refusal>
-    ensures value { result ≡ updated_to pair.now time b0 b1 }
+    ensures value { result ≡ updated_record_to pair.now time b0 b1 }
     ensures reserves { IfOk result (λ new. (new.r0 ≤ RESERVE_LIMIT) × (new.r1 ≤ RESERVE_LIMIT)) }
 {
     if b0 > RESERVE_LIMIT || b1 > RESERVE_LIMIT {

@@ -12,14 +12,16 @@ use Rattle.amm_names.specs.Pools.{pool_between, pool_token0, pool_token1}
 use Rattle.amm_model.specs.declared.pair.AddReceipt.{AddReceipt}
 use Rattle.amm_model.specs.declared.pair.RemoveReceipt.{RemoveReceipt}
 use Rattle.amm_model.specs.declared.trade.Trade.{Trade}
-use Rattle.amm_model.specs.declared.path.RoutePath.{RoutePath}
+use Rattle.amm_model.specs.declared.route_path.RoutePath.{RoutePath}
 use Rattle.amm_model.specs.declared.command.AddWant.{AddWant}
 use Rattle.amm_model.specs.declared.command.RemoveWant.{RemoveWant}
 use Rattle.amm_model.specs.declared.fault.Refusal.TheVariants as code
-use Rattle.amm_model.specs.Ledger.{Ledger, Outcome, Made, pair_of, transfer}
+use Rattle.amm_model.specs.Ledger.{Ledger, pair_of}
+use Rattle.amm_model.specs.Outcome.{Outcome, Made}
+use Rattle.amm_model.specs.Postings.{transfer}
 use Rattle.amm_model.specs.Operations.{swap, mint, burn}
 use Rattle.amm_model.specs.Factory.{create}
-use Rattle.amm_model.specs.Router.{side_of, last_of, exact_in, exact_out, with_pool, matched, add, paid_in_order, remove}
+use Rattle.amm_model.specs.Router.{side_of, last_of, exact_in, exact_out, with_pool, matched_amounts, add, paid_in_order, remove}
 use Rattle.amm_path.specs.Plan.{Plan, amounts_of, out_along, in_along, receiver_of, swap_trades, pay_plan, trade_along, exact_in_planned, exact_out_planned}
 use Rattle.amm_model.proofs.Guards.{given, not_refused, same_answer}
 use Rattle.amm_model.proofs.Names.{same_name_itself}
@@ -103,7 +105,7 @@ add_kept ledger actor want to deadline made fits is =
     let timely = not_refused (nat_lt deadline ledger.time) code.Expired _ made is in
     let there = given (with_pool ledger want.a want.b want.fee) _ made timely.1 in
     let side = given (side_of there.value.ledger want.a want.b want.fee) _ made there.after in
-    let amounts = given (matched want side.value.rin side.value.rout) _ made side.after in
+    let amounts = given (matched_amounts want side.value.rin side.value.rout) _ made side.after in
     let first = given (transfer there.value.ledger (assets.Token want.a) (holders.User actor) (holders.Pool side.value.pool) amounts.value.a) _ made amounts.after in
     let second = given (transfer first.value.ledger (assets.Token want.b) (holders.User actor) (holders.Pool side.value.pool) amounts.value.b) _ made first.after in
     let minted = given (mint second.value.ledger side.value.pool to) _ made second.after in

@@ -5,14 +5,14 @@ use Rattle.amm_names.specs.declared.holder.Holder.{Holder}
 use Rattle.amm_names.specs.Pools.{pool_between, is_before}
 use Rattle.amm_model.specs.declared.trade.Side.{Side}
 use Rattle.amm_model.specs.declared.trade.Trade.{Trade}
-use Rattle.amm_model.specs.declared.path.RoutePath.{RoutePath}
+use Rattle.amm_model.specs.declared.route_path.RoutePath.{RoutePath}
 use Rattle.amm_model.specs.declared.fault.Refusal.{Refusal}
 use Rattle.amm_model.specs.declared.fault.Refusal.TheVariants as code
 use Rattle.amm_model.specs.declared.limits.TheConstants.{AMOUNT_LIMIT}
-use Rattle.amm_model.specs.Outcome.{◌>>=◌, refuse_if}
-use Rattle.amm_model.specs.Ledger.{Ledger, Outcome, pair_of}
+use Rattle.amm_model.specs.Outcome.{◌>>=◌, refuse_if, Outcome}
+use Rattle.amm_model.specs.Ledger.{Ledger, pair_of}
 use Rattle.amm_model.specs.Operations.{if_there}
-use Rattle.amm_model.specs.Router.{seen_from, side_of, paid_out, asked_in, amounts_from, first_of, last_of, amounts_to, amounts_out, amounts_in, next_of, swap_along, pay_first, swap_amounts, exact_in, exact_out}
+use Rattle.amm_model.specs.Router.{seen_from, side_of, output_for, input_for, amounts_from, first_of, last_of, amounts_to, amounts_out, amounts_in, next_of, swap_along, pay_first, swap_amounts, exact_in, exact_out}
 use Rattle.amm_model.proofs.Guards.{given, not_refused, same_answer, was_some}
 use Rattle.amm_path.specs.Plan.{Plan, amounts_of, trade_out, trades_out, trade_in, plan_in, out_from_first, in_from_first, out_along, in_along, amounts_out_planned, amounts_in_planned, receiver_of, swap_trades, pay_plan, trade_along, exact_in_planned, exact_out_planned}
 
@@ -68,15 +68,15 @@ module _ (ledger : Ledger) where
   out_same from [] fees x = refl
   out_same from (to ∷ tokens) [] x = refl
   out_same from (to ∷ tokens) (fee ∷ fees) x =
-      pool_out (side_of ledger from to fee) (λ side. paid_out fee x side.rin side.rout) (amounts_from ledger (to ∷ tokens) fees) (trades_out ledger to tokens fees) x (λ y. out_same to tokens fees y)
+      pool_out (side_of ledger from to fee) (λ side. output_for fee x side.rin side.rout) (amounts_from ledger (to ∷ tokens) fees) (trades_out ledger to tokens fees) x (λ y. out_same to tokens fees y)
 
   in_same : (from : List ℕ) (tokens : List (List ℕ)) (fees : List ℕ) (y : ℕ) → amounts_to ledger (from ∷ tokens) fees y ≡ (plan_in ledger from tokens fees y >>= λ plan. Ok (amounts_of plan))
   unfolding amounts_to plan_in trade_in
   in_same from [] fees y = refl
   in_same from (to ∷ tokens) [] y = refl
   in_same from (to ∷ tokens) (fee ∷ fees) y =
-      ap (λ (r : Result (List ℕ) Refusal). r >>= λ amounts. (side_of ledger from to fee >>= λ side. (asked_in fee (first_of amounts) side.rin side.rout >>= λ x. Ok (x ∷ amounts)))) (in_same to tokens fees y)
-      ∙ pool_in (plan_in ledger to tokens fees y) (side_of ledger from to fee) (λ n side. asked_in fee n side.rin side.rout)
+      ap (λ (r : Result (List ℕ) Refusal). r >>= λ amounts. (side_of ledger from to fee >>= λ side. (input_for fee (first_of amounts) side.rin side.rout >>= λ x. Ok (x ∷ amounts)))) (in_same to tokens fees y)
+      ∙ pool_in (plan_in ledger to tokens fees y) (side_of ledger from to fee) (λ n side. input_for fee n side.rin side.rout)
 
   -- the amounts of an input
   pub amounts_out_is : (path : RoutePath) (x : ℕ) → amounts_out ledger path x ≡ amounts_out_planned ledger path x
@@ -142,7 +142,7 @@ module _ (ledger : Ledger) where
   out_along_path from (to ∷ tokens) (fee ∷ fees) x trades is =
       let first = given (trade_out ledger from to fee x) _ trades is in
       let side = given (side_of ledger from to fee) _ first.value first.was in
-      let paid = given (paid_out fee x side.value.rin side.value.rout) _ first.value side.after in
+      let paid = given (output_for fee x side.value.rin side.value.rout) _ first.value side.after in
       let later = given (trades_out ledger to tokens fees first.value.output) _ trades first.after in
       let seen = subst (λ (t : Trade). (pool_between from to fee ≡ Some t.pool) × (t.zero_in ≡ is_before from to)) (same_answer (trade_of side.value paid.value) first.value paid.after) (side_seen ledger from to fee side.value side.was) in
       subst (IsAlong from (to ∷ tokens) (fee ∷ fees)) (same_answer (first.value ∷ later.value) trades later.after) (seen, out_along_path to tokens fees first.value.output later.value later.was)
@@ -155,7 +155,7 @@ module _ (ledger : Ledger) where
       let later = given (plan_in ledger to tokens fees y) _ plan is in
       let asked = given (trade_in ledger from to fee later.value.input) _ plan later.after in
       let side = given (side_of ledger from to fee) _ asked.value asked.was in
-      let paid = given (asked_in fee later.value.input side.value.rin side.value.rout) _ asked.value side.after in
+      let paid = given (input_for fee later.value.input side.value.rin side.value.rout) _ asked.value side.after in
       let seen = subst (λ (a : ℕ × Trade). (pool_between from to fee ≡ Some a.1.pool) × (a.1.zero_in ≡ is_before from to)) (same_answer (asked_of side.value later.value.input paid.value) asked.value paid.after)
       (side_seen ledger from to fee side.value side.was) in
       subst (λ (p : Plan). IsAlong from (to ∷ tokens) (fee ∷ fees) p.trades) (same_answer (record { input = asked.value.0; trades = asked.value.1 ∷ later.value.trades }) plan asked.after)

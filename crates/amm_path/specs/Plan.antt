@@ -6,14 +6,15 @@ use Rattle.amm_names.specs.declared.holder.Holder.{Holder}
 use Rattle.amm_names.specs.declared.holder.Holder.TheVariants as holder
 use Rattle.amm_names.specs.declared.holder.Asset.TheVariants as asset
 use Rattle.amm_model.specs.declared.trade.Trade.{Trade}
-use Rattle.amm_model.specs.declared.path.RoutePath.{RoutePath}
+use Rattle.amm_model.specs.declared.route_path.RoutePath.{RoutePath}
 use Rattle.amm_model.specs.declared.fault.Refusal.{Refusal}
 use Rattle.amm_model.specs.declared.fault.Refusal.TheVariants as code
 use Rattle.amm_model.specs.declared.limits.TheConstants.{AMOUNT_LIMIT}
-use Rattle.amm_model.specs.Outcome.{◌>>=◌, refuse_if}
-use Rattle.amm_model.specs.Ledger.{Ledger, Outcome, done, transfer}
+use Rattle.amm_model.specs.Outcome.{◌>>=◌, refuse_if, Outcome, ledger_only}
+use Rattle.amm_model.specs.Ledger.{Ledger}
+use Rattle.amm_model.specs.Postings.{transfer}
 use Rattle.amm_model.specs.Operations.{swap}
-use Rattle.amm_model.specs.Router.{side_of, paid_out, asked_in, last_of}
+use Rattle.amm_model.specs.Router.{side_of, output_for, input_for, last_of}
 
 -- what goes into the first pool, and the trades that follow from it, in order
 pub record Plan : Type 0 where
@@ -30,7 +31,7 @@ amounts_of plan = plan.input ∷ map (λ trade. trade.output) plan.trades
 unfoldable pub trade_out : Ledger → (from to : List ℕ) → (fee : ℕ) → ℕ → Result Trade Refusal
 trade_out ledger from to fee x = do
   side ← side_of ledger from to fee
-  y ← paid_out fee x side.rin side.rout
+  y ← output_for fee x side.rin side.rout
   Ok (record { pool = side.pool; zero_in = side.zero_in; output = y })
 
 -- the trades that an input leads to, pool by pool from the first
@@ -45,7 +46,7 @@ trades_out ledger from _ _ x = Ok []
 unfoldable pub trade_in : Ledger → (from to : List ℕ) → (fee : ℕ) → ℕ → Result (ℕ × Trade) Refusal
 trade_in ledger from to fee y = do
   side ← side_of ledger from to fee
-  x ← asked_in fee y side.rin side.rout
+  x ← input_for fee y side.rin side.rout
   Ok (x, record { pool = side.pool; zero_in = side.zero_in; output = y })
 
 -- the plan that an output asks for, pool by pool from the last
@@ -99,7 +100,7 @@ receiver_of (next ∷ later) to = holder.Pool next.pool
 
 -- one swap for each trade
 unfoldable pub swap_trades : Ledger → List Trade → Holder → Outcome (Unit {0})
-swap_trades ledger [] to = done ledger
+swap_trades ledger [] to = ledger_only ledger
 swap_trades ledger (trade ∷ later) to = do
   swapped ← swap ledger trade.pool (if trade.zero_in then 0 else trade.output) (if trade.zero_in then trade.output else 0) (receiver_of later to)
   swap_trades swapped.ledger later to
@@ -107,7 +108,7 @@ swap_trades ledger (trade ∷ later) to = do
 -- the input from the actor to the first pool
 unfoldable pub pay_plan : Ledger → (actor : List ℕ) → List (List ℕ) → ℕ → List Trade → Outcome (Unit {0})
 pay_plan ledger actor (from ∷ tokens) input (first ∷ later) = transfer ledger (asset.Token from) (holder.User actor) (holder.Pool first.pool) input
-pay_plan ledger actor tokens input trades = done ledger
+pay_plan ledger actor tokens input trades = ledger_only ledger
 
 -- the input is paid, and then each trade is made
 unfoldable pub trade_along : Ledger → (actor : List ℕ) → RoutePath → Plan → Holder → Outcome (List ℕ)

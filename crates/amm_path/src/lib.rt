@@ -6,16 +6,16 @@
 //! reserves at the start, and the pair's own tests decide at each swap.
 #![tactic(auto)]
 
+mod add_remove;
 mod exact_in;
 mod exact_out;
-mod liquidity;
 mod payments;
 mod plan;
 mod quotes;
 mod sides;
 mod swaps;
 
+pub use add_remove::{add, remove};
 pub use exact_in::swap_exact_in;
 pub use exact_out::swap_exact_out;
-pub use liquidity::{add, remove};
 pub use quotes::{amounts_in, amounts_out};

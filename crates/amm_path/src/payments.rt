@@ -1,7 +1,7 @@
 //! Payments of the actor to a pool, and faults of readers told to the transaction.
 ghost use Rattle.std.specs.Prelude.{◌≡◌, OnOk};
 ghost use Rattle.amm_names.specs.declared.holder.Holder.TheVariants as holders;
-ghost use Rattle.amm_model.specs.Ledger.{transfer};
+ghost use Rattle.amm_model.specs.Postings.{transfer};
 ghost use Rattle.amm_model.specs.Sound.{IsSound};
 ghost use Rattle.amm_state.specs.Tx.{Meets, mark_of};
 

@@ -102,7 +102,7 @@ pub(crate) fn amounts_of(alloc: Global, plan: &Plan) -> Result<AmountList, Memor
 }
 
 // The trade that an input makes with the pool of two tokens.
-#[tactic(auto, unfolding(crate::specs::Plan::trade_out, amm_model::specs::Router::paid_out))]
+#[tactic(auto, unfolding(crate::specs::Plan::trade_out, amm_model::specs::Router::output_for))]
 fn trade_out(
     alloc: Global,
     book: &Book,
@@ -166,7 +166,7 @@ struct Asked {
 }
 
 // What the pool of two tokens asks for an output, and the trade.
-#[tactic(auto, unfolding(crate::specs::Plan::trade_in, amm_model::specs::Router::asked_in))]
+#[tactic(auto, unfolding(crate::specs::Plan::trade_in, amm_model::specs::Router::input_for))]
 fn trade_in(
     alloc: Global,
     book: &Book,

@@ -11,7 +11,7 @@ mod laws;
 ghost use Rattle.std.specs.Prelude.{◌≡◌, ◌+◌, ◌-◌, ◌*◌, ◌/◌, ◌^◌, ◌<◌, ◌≤◌, ◌↔◌, IsTrue};
 ghost use Rattle.amm_model.specs.Root.{IsRoot, root_of};
 ghost use Rattle.amm_model.specs.Swap.{Admits, IsFee, IsGreatestOutput, IsLeastInputOrOneMore, admits as admits_of, amount_in_of, amount_out_of, input_weight, quote_of};
-ghost use Rattle.amm_model.specs.Formulas.{elapsed as elapsed_of, grown as grown_of, IsBacked, accumulated, fee_shares_of, later_shares_of};
+ghost use Rattle.amm_model.specs.Formulas.{elapsed_seconds as elapsed_of, accumulator_after as grown_of, IsBacked, accumulated_record, fee_shares_of, later_shares_of};
 
 use amm_model::PairRecord;
 use amm_num::{mul_div, root};
@@ -135,7 +135,7 @@ pub fn fee_shares(supply: u64, r0: u64, r1: u64, k_last: u128) -> u64
 /// 2^32, and the accumulators, whose prices have 48 binary places, and which wrap (core,
 /// `_update`).
 pub fn accumulate(old: &PairRecord, now: u64) -> PairRecord
-    ensures { result ≡ accumulated old.now now }
+    ensures { result ≡ accumulated_record old.now now }
 {
     let seconds = elapsed(now, old.last);
     PairRecord {

@@ -17,7 +17,7 @@ use Rattle.amm_names.specs.declared.holder.Asset.TheVariants as assets
 use Rattle.amm_names.specs.declared.holder.Holder.{Holder}
 use Rattle.amm_names.specs.declared.holder.Holder.TheVariants as holders
 use Rattle.amm_rows.proofs.Ascii.{IsUtf8-user, IsUtf8-token, IsUtf8-spelling}
-use Rattle.amm_model.specs.declared.path.RoutePath.{RoutePath}
+use Rattle.amm_model.specs.declared.route_path.RoutePath.{RoutePath}
 use Rattle.amm_model.specs.Json.{elements, whole}
 use Rattle.amm_model.specs.Forms.{as_user, as_token, as_pool, as_amount, as_fee, as_path, fee_behind, path_along}
 use Rattle.amm_model.specs.declared.limits.TheConstants.{AMOUNT_LIMIT}

@@ -10,7 +10,7 @@ use Rattle.amm_names.specs.declared.holder.Holder.{Holder}
 use Rattle.amm_names.specs.declared.holder.Holder.TheVariants as holders
 use Rattle.amm_model.specs.declared.command.AddWant.{AddWant}
 use Rattle.amm_model.specs.declared.command.RemoveWant.{RemoveWant}
-use Rattle.amm_model.specs.declared.path.RoutePath.{RoutePath}
+use Rattle.amm_model.specs.declared.route_path.RoutePath.{RoutePath}
 use Rattle.amm_model.specs.declared.limits.TheConstants.{AMOUNT_LIMIT, LOAN_LIMIT, STEP_LIMIT}
 use Rattle.amm_model.specs.Fits.{IsPath}
 use Rattle.amm_model.specs.CommandView as view

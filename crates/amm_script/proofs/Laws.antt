@@ -6,7 +6,9 @@ use Rattle.amm_names.specs.declared.holder.Holder.TheVariants as holders
 use Rattle.amm_names.specs.declared.holder.Asset.{Asset}
 use Rattle.amm_model.specs.declared.reply.Answer.{Answer}
 use Rattle.amm_model.specs.declared.reply.Answer.TheVariants as answers
-use Rattle.amm_model.specs.Ledger.{Ledger, Made, Outcome, transfer}
+use Rattle.amm_model.specs.Ledger.{Ledger}
+use Rattle.amm_model.specs.Outcome.{Made, Outcome}
+use Rattle.amm_model.specs.Postings.{transfer}
 use Rattle.amm_model.specs.Operations.{mint, burn, swap, skim, sync, lend, give_back}
 use Rattle.amm_model.specs.Factory.{create}
 use Rattle.amm_model.specs.Router.{add, remove, exact_in, exact_out}
@@ -18,10 +20,10 @@ use Rattle.amm_model.specs.declared.fault.Fault.{Fault}
 use Rattle.amm_model.specs.declared.pair.PairRecord.{PairRecord}
 use Rattle.amm_model.specs.declared.pair.MintReceipt.{MintReceipt}
 use Rattle.amm_model.specs.declared.pair.SwapReceipt.{SwapReceipt}
-use Rattle.amm_model.specs.declared.path.RoutePath.{RoutePath}
-use Rattle.amm_model.specs.Meaning.{known, send, as_answer, reserves_told, meaning, meaning_of_all}
+use Rattle.amm_model.specs.declared.route_path.RoutePath.{RoutePath}
+use Rattle.amm_model.specs.Meaning.{known_asset, send, as_answer, sync_reply, meaning, meaning_of_all}
 use Rattle.amm_model.proofs.Guards.{given, same_answer}
-use Rattle.amm_state.specs.Tx.{Progress, Accepts, Meets}
+use Rattle.amm_state.specs.Tx.{TxView, Accepts, Meets}
 use Rattle.amm_state.proofs.Meets.{on_ok}
 use Rattle.amm_model.proofs.Laters.{Kept, kept_same, kept_then, transfer_kept}
 use Rattle.amm_path.proofs.Kept.{exact_in_kept, exact_out_kept, add_kept, remove_kept}
@@ -42,7 +44,7 @@ answered old form outcome made each is =
 pub send_kept : (old : Ledger) (actor : List ℕ) (asset : Asset) (to : Holder) (n : ℕ) (made : Made Answer) → send old actor asset to n ≡ Ok made → Kept old made.ledger
 unfolding send
 send_kept old actor asset to n made is =
-    let first = given (known old asset) _ made is in
+    let first = given (known_asset old asset) _ made is in
     let second = given (transfer old asset (holders.User actor) to n) _ made first.after in
     subst (λ (k : Made Answer). Kept old k.ledger) (same_answer _ made second.after) (transfer_kept old asset actor to n second.value second.was)
 
@@ -57,7 +59,7 @@ mutual
   step_kept (view.burn pool to) old actor made names fits is = answered old answers.Burn (burn old pool to) made (λ done e. burn_kept old pool to done e (tokens_differ pool names)) is
   step_kept (view.swap pool out0 out1 to) old actor made names fits is = answered old answers.Swap (swap old pool out0 out1 to) made (swap_kept old pool out0 out1 to) is
   step_kept (view.skim pool to) old actor made names fits is = answered old answers.Skim (skim old pool to) made (λ done e. skim_kept old pool to done e (tokens_differ pool names)) is
-  step_kept (view.sync pool) old actor made names fits is = answered old reserves_told (sync old pool) made (λ done e. sync_kept old pool done e) is
+  step_kept (view.sync pool) old actor made names fits is = answered old sync_reply (sync old pool) made (λ done e. sync_kept old pool done e) is
   step_kept (view.flash pool out0 out1 steps) old actor made names fits is =
       let lent = given (lend old pool out0 out1 (holders.User actor)) _ made is in
       let ran = given (meaning_of_all lent.value.ledger actor steps) _ made lent.after in
@@ -81,7 +83,7 @@ mutual
 
 -- ---- what is promised of the ledger after an accepted call, where no name has to be one
 
-module _ (old new : Progress) where
+module _ (old new : TxView) where
   abbrev made_by : {A : Type 0} → A → Made A
   made_by answer = record { ledger = new.present; answer = answer }
 

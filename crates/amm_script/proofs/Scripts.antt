@@ -7,14 +7,15 @@ use Rattle.amm_model.specs.declared.fault.Fault.{Fault}
 use Rattle.amm_model.specs.declared.fault.Fault.TheVariants as faults
 use Rattle.amm_model.specs.declared.reply.Answer.{Answer}
 use Rattle.amm_model.specs.declared.reply.Answer.TheVariants as answers
-use Rattle.amm_model.specs.Ledger.{Ledger, Outcome}
+use Rattle.amm_model.specs.Ledger.{Ledger}
+use Rattle.amm_model.specs.Outcome.{Outcome}
 use Rattle.amm_model.specs.Pools.{Terms}
 use Rattle.amm_model.specs.Operations.{open_loan}
 use Rattle.amm_model.specs.CommandView as view
 use Rattle.amm_model.specs.CommandView.{Moves}
 use Rattle.amm_model.specs.Meaning.{meaning, meaning_of_all}
 use Rattle.amm_state.specs.declared.mark.Mark.TheVariants as mark
-use Rattle.amm_state.specs.Tx.{Progress, Meets, mark_of}
+use Rattle.amm_state.specs.Tx.{TxView, Meets, mark_of}
 use Rattle.amm_state.proofs.TxLemmas.{meets_same}
 use Rattle.amm_flash.specs.End.{IsDone}
 use Rattle.amm_flash.specs.Flash.{FlashAnswers, before_return}
@@ -26,10 +27,10 @@ as_step_answer (Ok receipt) = Ok (answers.Flash receipt)
 as_step_answer (Err fault) = Err fault
 
 -- a transaction like this one, with this ledger and a clean mark
-abbrev at_ledger : Progress → Ledger → Progress
+abbrev at_ledger : TxView → Ledger → TxView
 at_ledger old ledger = record { opening = old.opening; present = ledger; mark = mark.Clean }
 
-module _ (actor pool : List ℕ) (out0 out1 : ℕ) (ms : Moves) (old new : Progress) (same : new.opening ≡ old.opening) where
+module _ (actor pool : List ℕ) (out0 out1 : ℕ) (ms : Moves) (old new : TxView) (same : new.opening ≡ old.opening) where
   abbrev flashed : Outcome Answer
   flashed = meaning old.present actor (view.flash pool out0 out1 ms)
 

@@ -13,8 +13,8 @@ use Rattle.amm_model.specs.declared.reply.Answer.TheVariants as answers
 use Rattle.amm_model.specs.Operations.{lend, open_loan, give_back}
 use Rattle.amm_model.specs.declared.fault.Fault.{Fault}
 use Rattle.amm_model.specs.declared.fault.Fault.TheVariants as faults
-use Rattle.amm_model.specs.Outcome.{◌>>=◌}
-use Rattle.amm_model.specs.Ledger.{Ledger, Made, Outcome}
+use Rattle.amm_model.specs.Outcome.{◌>>=◌, Made, Outcome}
+use Rattle.amm_model.specs.Ledger.{Ledger}
 use Rattle.amm_model.specs.Pools.{Terms}
 use Rattle.amm_model.specs.Later.{Later}
 use Rattle.amm_model.specs.Sound.{IsOpen}
@@ -23,7 +23,7 @@ use Rattle.amm_model.specs.CommandView.{Move, Moves, move_of_step, moves_of_step
 use Rattle.amm_model.specs.Fits.{FitsMove, FitMoves}
 use Rattle.amm_model.specs.Meaning.{meaning, meaning_of_all, as_answer}
 use Rattle.amm_model.proofs.Moves.{move_of-Flash}
-use Rattle.amm_state.specs.Tx.{Progress, Accepts, Meets}
+use Rattle.amm_state.specs.Tx.{TxView, Accepts, Meets}
 use Rattle.amm_state.specs.declared.mark.Mark.TheVariants as marks
 use Rattle.amm_model.proofs.Guards.{Given, given, same_answer}
 use Rattle.amm_state.proofs.TxLemmas.{meets_after}
@@ -39,7 +39,7 @@ pub still_open : (old new : Ledger) (loan : Terms) → Later old new → IsOpen 
 still_open old new loan later open_loan = record { there = later.locked loan.pool loan.pair open_loan.there open_loan.locked; locked = open_loan.locked }
 
 -- a call that left the mark clean was accepted
-pub clean_later : {A : Type 0} (old new : Progress) (answer : Result A Fault) (outcome : Outcome A) → Meets old new answer outcome → OnOk answer (Later old.present new.present)
+pub clean_later : {A : Type 0} (old new : TxView) (answer : Result A Fault) (outcome : Outcome A) → Meets old new answer outcome → OnOk answer (Later old.present new.present)
     → new.mark ≡ marks.Clean → Later old.present new.present
 clean_later old new (Ok a) outcome meets later clean = later
 clean_later old new (Err (faults.Refused why)) outcome meets later clean = absurd (let both : marks.Refused why ≡ marks.Clean = sym meets.mark ∙ clean in cc)
@@ -54,23 +54,23 @@ next_move ss i step below is =
 pub no_more_moves : (ss : List Step) (i : ℕ) → length ss ≤ i → moves_of_steps (drop i ss) ≡ view.no_moves
 no_more_moves ss i past = ap (λ (k : List Step). moves_of_steps k) (drop_all i ss past)
 
-module _ (old mid : Progress) (actor : List ℕ) (m : Move) (now rest whole : Moves) (head : now ≡ view.move m rest)
+module _ (old mid : TxView) (actor : List ℕ) (m : Move) (now rest whole : Moves) (head : now ≡ view.move m rest)
     (left : meaning_of_all mid.present actor now ≡ meaning_of_all old.present actor whole) where
   from_here : (meaning mid.present actor m >>= (λ made. meaning_of_all made.ledger actor rest)) ≡ meaning_of_all old.present actor whole
   unfolding meaning_of_all
   from_here = ap (meaning_of_all mid.present actor) (sym head) ∙ left
 
   -- the first step that fails ends them
-  pub first_fault : (new : Progress) (fault : Fault) → mid.opening ≡ old.opening → Meets {A = Answer} mid new (Err fault) (meaning mid.present actor m) → Meets {A = Unit {0}} old new (Err fault) (meaning_of_all old.present actor whole)
+  pub first_fault : (new : TxView) (fault : Fault) → mid.opening ≡ old.opening → Meets {A = Answer} mid new (Err fault) (meaning mid.present actor m) → Meets {A = Unit {0}} old new (Err fault) (meaning_of_all old.present actor whole)
   first_fault new (faults.Refused why) same meets = record { gives = sym from_here ∙ ap (λ o. o >>= (λ made. meaning_of_all made.ledger actor rest)) meets.gives; opening = meets.opening ∙ same; mark = meets.mark }
   first_fault new faults.Memory same meets = record { opening = meets.opening ∙ same; mark = meets.mark }
 
   -- after an accepted step the others are left
-  pub one_less : (new : Progress) (answer : Answer) → Accepts mid new answer (meaning mid.present actor m) → meaning_of_all new.present actor rest ≡ meaning_of_all old.present actor whole
+  pub one_less : (new : TxView) (answer : Answer) → Accepts mid new answer (meaning mid.present actor m) → meaning_of_all new.present actor rest ≡ meaning_of_all old.present actor whole
   one_less new answer accepted = sym (ap (λ o. o >>= (λ made. meaning_of_all made.ledger actor rest)) accepted.gives) ∙ from_here
 
 -- no step is left
-pub all_done : (old mid : Progress) (actor : List ℕ) (now whole : Moves) → now ≡ view.no_moves → meaning_of_all mid.present actor now ≡ meaning_of_all old.present actor whole → meaning_of_all old.present actor whole ≡ Ok (record { ledger = mid.present; answer = tt })
+pub all_done : (old mid : TxView) (actor : List ℕ) (now whole : Moves) → now ≡ view.no_moves → meaning_of_all mid.present actor now ≡ meaning_of_all old.present actor whole → meaning_of_all old.present actor whole ≡ Ok (record { ledger = mid.present; answer = tt })
 unfolding meaning_of_all
 all_done old mid actor now whole none left = sym left ∙ ap (meaning_of_all mid.present actor) none
 
@@ -95,7 +95,7 @@ still_refused (Err other) form why is = ap Err (same_code other why is)
 abbrev ok_made : Ledger → PairRecord → Outcome PairRecord
 ok_made ledger pair = Ok (record { ledger = ledger; answer = pair })
 
-module _ (actor pool : List ℕ) (out0 out1 : ℕ) (ms : Moves) (old : Progress) where
+module _ (actor pool : List ℕ) (out0 out1 : ℕ) (ms : Moves) (old : TxView) where
   abbrev to : Holder
   to = holders.User actor
 
@@ -103,13 +103,13 @@ module _ (actor pool : List ℕ) (out0 out1 : ℕ) (ms : Moves) (old : Progress)
   whole = flashed old.present actor pool out0 out1 ms
 
   -- no loan was made
-  pub not_lent : (new : Progress) (fault : Fault) → Meets {A = Terms} old new (Err fault) (open_loan old.present pool out0 out1 to) → Meets {A = Answer} old new (Err fault) whole
+  pub not_lent : (new : TxView) (fault : Fault) → Meets {A = Terms} old new (Err fault) (open_loan old.present pool out0 out1 to) → Meets {A = Answer} old new (Err fault) whole
   not_lent new (faults.Refused why) meets =
       let refused = still_refused (lend old.present pool out0 out1 to) _ why meets.gives in
       record { gives = ap (λ (o : Outcome PairRecord). o >>= (λ lent. meaning_of_all lent.ledger actor ms >>= (λ ran. as_answer answers.Flash (give_back ran.ledger pool out0 out1)))) refused; opening = meets.opening; mark = meets.mark }
   not_lent new faults.Memory meets = record { opening = meets.opening; mark = meets.mark }
 
-  module _ (lent : Progress) (loan : Terms) (opened : Accepts old lent loan (open_loan old.present pool out0 out1 to)) where
+  module _ (lent : TxView) (loan : Terms) (opened : Accepts old lent loan (open_loan old.present pool out0 out1 to)) where
     made : Given {B = Made Terms} (lend old.present pool out0 out1 to) (λ l. Ok (record { ledger = l.ledger; answer = record { pool = pool; out0 = out0; out1 = out1; pair = l.answer } })) (record { ledger = lent.present; answer = loan })
     made = given (lend old.present pool out0 out1 to) _ (record { ledger = lent.present; answer = loan }) opened.gives
 
@@ -127,34 +127,34 @@ module _ (actor pool : List ℕ) (out0 out1 : ℕ) (ms : Moves) (old : Progress)
     returns ledger = ap (λ (k : Made Terms). give_back ledger k.answer.pool k.answer.out0 k.answer.out1) same
 
     -- a step of the loan failed
-    pub not_run : (new : Progress) (fault : Fault) → Meets {A = Unit {0}} lent new (Err fault) (meaning_of_all lent.present actor ms) → Meets {A = Answer} old new (Err fault) whole
+    pub not_run : (new : TxView) (fault : Fault) → Meets {A = Unit {0}} lent new (Err fault) (meaning_of_all lent.present actor ms) → Meets {A = Answer} old new (Err fault) whole
     not_run new fault meets =
         meets_after old lent new loan.pair (lend old.present pool out0 out1 to) _ (Err fault) lends (still_err new fault meets)
       where
-        still_err : (new : Progress) (fault : Fault) → Meets {A = Unit {0}} lent new (Err fault) (meaning_of_all lent.present actor ms)
+        still_err : (new : TxView) (fault : Fault) → Meets {A = Unit {0}} lent new (Err fault) (meaning_of_all lent.present actor ms)
             → Meets {A = Answer} lent new (Err fault) (meaning_of_all lent.present actor ms >>= (λ ran. as_answer answers.Flash (give_back ran.ledger pool out0 out1)))
         still_err new (faults.Refused why) meets = record { gives = ap (λ (o : Outcome (Unit {0})). o >>= (λ ran. as_answer answers.Flash (give_back ran.ledger pool out0 out1))) meets.gives; opening = meets.opening; mark = meets.mark }
         still_err new faults.Memory meets = record { opening = meets.opening; mark = meets.mark }
 
-    module _ (ran : Progress) (runs : Accepts lent ran tt (meaning_of_all lent.present actor ms)) where
-      after : (new : Progress) (answer : Result Answer Fault) → Meets ran new answer (as_answer answers.Flash (give_back ran.present pool out0 out1)) → Meets old new answer whole
+    module _ (ran : TxView) (runs : Accepts lent ran tt (meaning_of_all lent.present actor ms)) where
+      after : (new : TxView) (answer : Result Answer Fault) → Meets ran new answer (as_answer answers.Flash (give_back ran.present pool out0 out1)) → Meets old new answer whole
       after new answer meets =
           meets_after old lent new loan.pair (lend old.present pool out0 out1 to) _ answer lends
           (meets_after lent ran new tt (meaning_of_all lent.present actor ms) _ answer runs meets)
 
       -- the loan was not paid back
-      pub not_returned : (new : Progress) (fault : Fault) → Meets {A = SwapReceipt} ran new (Err fault) (give_back ran.present loan.pool loan.out0 loan.out1) → Meets {A = Answer} old new (Err fault) whole
+      pub not_returned : (new : TxView) (fault : Fault) → Meets {A = SwapReceipt} ran new (Err fault) (give_back ran.present loan.pool loan.out0 loan.out1) → Meets {A = Answer} old new (Err fault) whole
       not_returned new (faults.Refused why) meets =
           after new (Err (faults.Refused why)) (record { gives = ap (as_answer answers.Flash) (returns ran.present ∙ meets.gives); opening = meets.opening; mark = meets.mark })
       not_returned new faults.Memory meets = after new (Err faults.Memory) (record { opening = meets.opening; mark = meets.mark })
 
       -- the loan was paid back
-      pub returned : (new : Progress) (receipt : SwapReceipt) → Accepts ran new receipt (give_back ran.present loan.pool loan.out0 loan.out1) → Accepts old new (answers.Flash receipt) whole
+      pub returned : (new : TxView) (receipt : SwapReceipt) → Accepts ran new receipt (give_back ran.present loan.pool loan.out0 loan.out1) → Accepts old new (answers.Flash receipt) whole
       returned new receipt accepted =
           after new (Ok (answers.Flash receipt)) (record { gives = ap (as_answer answers.Flash) (returns ran.present ∙ accepted.gives); opening = accepted.opening; mark = accepted.mark })
 
       -- and what is promised of a later ledger holds after it
-      pub returned_later : (new : Progress) (receipt : SwapReceipt) → Later lent.present ran.present → Accepts ran new receipt (give_back ran.present loan.pool loan.out0 loan.out1) → Later old.present new.present
+      pub returned_later : (new : TxView) (receipt : SwapReceipt) → Later lent.present ran.present → Accepts ran new receipt (give_back ran.present loan.pool loan.out0 loan.out1) → Later old.present new.present
       returned_later new receipt within accepted =
           later_loan old.present pool out0 out1 to (record { ledger = lent.present; answer = loan.pair }) lends.gives ran.present within
           (record { ledger = new.present; answer = receipt }) (returns ran.present ∙ accepted.gives)

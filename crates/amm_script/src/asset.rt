@@ -1,6 +1,6 @@
 //! Assets that can be spoken of, and units that go from the actor.
 ghost use Rattle.std.specs.Prelude.{◌≡◌, OnOk};
-ghost use Rattle.amm_model.specs.Meaning.{known, send};
+ghost use Rattle.amm_model.specs.Meaning.{known_asset, send};
 ghost use Rattle.amm_model.specs.Sound.{IsSound};
 ghost use Rattle.amm_state.specs.Tx.{Meets};
 
@@ -11,9 +11,9 @@ use std::alloc::Global;
 /// Whether the asset can be spoken of: a listed token, or the shares of a pool that has a pair.
 ///
 /// Refused: UNKNOWN_TOKEN or NO_PAIR.
-#[tactic(auto, unfolding(amm_model::specs::Meaning::known))]
+#[tactic(auto, unfolding(amm_model::specs::Meaning::known_asset))]
 pub fn known(book: &Book, asset: &Asset) -> Result<(), Refusal>
-    ensures { result ≡ known book.now.ledger asset.now }
+    ensures { result ≡ known_asset book.now.ledger asset.now }
 {
     match asset {
         Asset::Token(token) if !book.has_token(token) => Err(Refusal::UnknownToken),

@@ -7,11 +7,12 @@ use Rattle.amm_names.specs.declared.holder.Asset.{Asset}
 use Rattle.amm_names.specs.declared.holder.Asset.TheVariants as assets
 use Rattle.amm_model.specs.declared.problem.ProblemPool.{ProblemPool}
 use Rattle.amm_model.specs.declared.route.Leg.{Leg}
-use Rattle.amm_model.specs.Outcome.{◌>>=◌}
-use Rattle.amm_model.specs.Ledger.{Ledger, balance, done}
+use Rattle.amm_model.specs.Outcome.{◌>>=◌, ledger_only}
+use Rattle.amm_model.specs.Ledger.{Ledger, balance}
 use Rattle.amm_model.specs.Pools.{asset0, asset1}
-use Rattle.amm_model.specs.Routing.{Name, IsBefore, no_pool}
-use Rattle.amm_model.specs.Legs.{Holdings, IsLeg, AreLegs, leg_pool, token_in, token_out, after_leg, after_legs}
+use Rattle.amm_model.specs.Routing.{IsBefore, no_pool}
+use Rattle.amm_names.specs.Names.{Name}
+use Rattle.amm_model.specs.Legs.{Inventory, IsLeg, AreLegs, leg_pool, token_in, token_out, after_leg, after_legs}
 use Rattle.amm_model.specs.Settlement.{perform_legs}
 use Rattle.amm_settle.proofs.Trading.{IsAsKept, IsSoundPool, IsTraded}
 use Rattle.amm_settle.proofs.OneLeg.{LegDone, leg_done, leg_tokens, pools_apart}
@@ -37,7 +38,7 @@ pub record AreSoundPools (pools : List ProblemPool) : Type 0 where
   pub each : (place : ℕ) → place < length pools → IsSoundPool (get_or pools place no_pool)
 
 -- a pool that was used stands in no later leg
-off_used : (pools : List ProblemPool) (used : List ℕ) (held : Holdings) (legs : List Leg) (k : ℕ) → k < length used → AreLegs pools used held legs → AreOffPlace (get_or used k 0) legs
+off_used : (pools : List ProblemPool) (used : List ℕ) (held : Inventory) (legs : List Leg) (k : ℕ) → k < length used → AreLegs pools used held legs → AreOffPlace (get_or used k 0) legs
 off_used pools used held [] k below legal = tt
 off_used pools used held (leg ∷ legs) k below legal =
     ((λ e. legal.0.unused k 0 below e), off_used pools (leg.pool ∷ used) (after_leg pools held leg) legs (suc k) (omega arith) legal.1)
@@ -57,7 +58,7 @@ still_kept pool other actor from to input output old new traded apart kept = rec
   b1 = traded.others (asset1 other.name) (holders.Pool other.name) (λ e. cc) (other_pool other.name pool.name apart) ∙ kept.b1;
 }
 
-all_still_kept : (pools : List ProblemPool) → AreSoundPools pools → (used : List ℕ) (held : Holdings) (legs : List Leg) (first : Leg) (actor from to : Name) (input output : ℕ) (old new : Ledger)
+all_still_kept : (pools : List ProblemPool) → AreSoundPools pools → (used : List ℕ) (held : Inventory) (legs : List Leg) (first : Leg) (actor from to : Name) (input output : ℕ) (old new : Ledger)
     → IsTraded (leg_pool pools first) actor from to input output old new → first.pool < length pools → AreLegs pools used held legs → AreOffPlace first.pool legs → AreAsKept old pools legs → AreAsKept new pools legs
 all_still_kept pools sound used held [] first actor from to input output old new traded there legal off kept = tt
 all_still_kept pools sound used held (leg ∷ legs) first actor from to input output old new traded there legal off kept = (
@@ -67,9 +68,9 @@ all_still_kept pools sound used held (leg ∷ legs) first actor from to input ou
 )
 
 -- Legs were performed.
-pub record LegsDone (old : Ledger) (actor : Name) (pools : List ProblemPool) (held : Holdings) (legs : List Leg) : Type 0 where
+pub record LegsDone (old : Ledger) (actor : Name) (pools : List ProblemPool) (held : Inventory) (legs : List Leg) : Type 0 where
   pub ledger : Ledger
-  pub is : perform_legs old actor pools legs ≡ done ledger
+  pub is : perform_legs old actor pools legs ≡ ledger_only ledger
   pub tokens : (y : Name) → balance ledger (assets.Token y) (holders.User actor) + held y ≡ balance old (assets.Token y) (holders.User actor) + after_legs pools held legs y
   pub shares : (pool : Name) → balance ledger (assets.Share pool) (holders.User actor) ≡ balance old (assets.Share pool) (holders.User actor)
   pub others : (any : Asset) (who : Holder) → who ≢ holders.User actor → IsNoPoolOf who pools legs → balance ledger any who ≡ balance old any who
@@ -82,7 +83,7 @@ tokens_of_leg_apart pools leg sound = by_side leg.pool leg.zero_in sound
     by_side place true sound = sound.apart
     by_side place false sound = λ e. sound.apart (sym e)
 
-pub legs_done : (pools : List ProblemPool) → AreSoundPools pools → (legs : List Leg) (used : List ℕ) (held : Holdings) (actor : Name) (old : Ledger) → AreLegs pools used held legs → AreAsKept old pools legs
+pub legs_done : (pools : List ProblemPool) → AreSoundPools pools → (legs : List Leg) (used : List ℕ) (held : Inventory) (actor : Name) (old : Ledger) → AreLegs pools used held legs → AreAsKept old pools legs
     → ((y : Name) → held y ≤ balance old (assets.Token y) (holders.User actor)) → LegsDone old actor pools held legs
 unfolding perform_legs
 legs_done pools sound [] used held actor old legal kept funds = record { ledger = old; is = refl; tokens = λ y. refl; shares = λ pool. refl; others = λ any who user none. refl }

@@ -3,7 +3,9 @@ use Rattle.std.proofs.Common.{◌≡◌, ◌≢◌, ◌≤◌, ◌+◌, ◌-◌,
 use Rattle.std.proofs.lemmas.Bool.{le-ltb}
 use Rattle.amm_names.specs.declared.holder.Holder.{Holder}
 use Rattle.amm_names.specs.declared.holder.Asset.{Asset}
-use Rattle.amm_model.specs.Ledger.{Ledger, balance, done, taken, moved, transfer}
+use Rattle.amm_model.specs.Ledger.{Ledger, balance, with_less, with_transfer}
+use Rattle.amm_model.specs.Outcome.{ledger_only}
+use Rattle.amm_model.specs.Postings.{transfer}
 use Rattle.amm_model.proofs.Names.{holders_apart}
 use Rattle.amm_model.proofs.Balances.{Rest, rest_then, Changed, set_balance_changed}
 
@@ -21,7 +23,7 @@ apart_stays a h n old new c q p apart = elim (c.elsewhere q p) [
   | inr e ↦ e
 ]
 
-pub moved_moved : (l : Ledger) (a : Asset) (f t : Holder) (n : ℕ) → n ≤ balance l a f → f ≢ t → Moved a f t n l (moved l a f t n)
+pub moved_moved : (l : Ledger) (a : Asset) (f t : Holder) (n : ℕ) → n ≤ balance l a f → f ≢ t → Moved a f t n l (with_transfer l a f t n)
 moved_moved l a f t n funds apart = record {
   rest = rest_then l mid new first.rest second.rest;
   less = omega (arith, still_from, first.here);
@@ -32,25 +34,25 @@ moved_moved l a f t n funds apart = record {
   ];
 } where
   mid : Ledger
-  mid = taken l a f n
+  mid = with_less l a f n
 
   new : Ledger
-  new = moved l a f t n
+  new = with_transfer l a f t n
 
-  first : Changed a f (balance l a f - n) l (taken l a f n)
+  first : Changed a f (balance l a f - n) l (with_less l a f n)
   first = set_balance_changed l a f (balance l a f - n)
 
-  second : Changed a t (balance (taken l a f n) a t + n) (taken l a f n) (moved l a f t n)
-  second = set_balance_changed (taken l a f n) a t (balance (taken l a f n) a t + n)
+  second : Changed a t (balance (with_less l a f n) a t + n) (with_less l a f n) (with_transfer l a f t n)
+  second = set_balance_changed (with_less l a f n) a t (balance (with_less l a f n) a t + n)
 
-  still_from : balance (moved l a f t n) a f ≡ balance (taken l a f n) a f
-  still_from = apart_stays a t _ (taken l a f n) (moved l a f t n) second a f (inr apart)
+  still_from : balance (with_transfer l a f t n) a f ≡ balance (with_less l a f n) a f
+  still_from = apart_stays a t _ (with_less l a f n) (with_transfer l a f t n) second a f (inr apart)
 
-  still_to : balance (taken l a f n) a t ≡ balance l a t
-  still_to = apart_stays a f _ l (taken l a f n) first a t (inr (λ e. apart (sym e)))
+  still_to : balance (with_less l a f n) a t ≡ balance l a t
+  still_to = apart_stays a f _ l (with_less l a f n) first a t (inr (λ e. apart (sym e)))
 
 -- a transfer with the funds is made
-pub transfer_made : (l : Ledger) (a : Asset) (f t : Holder) (n : ℕ) → n ≤ balance l a f → f ≢ t → transfer l a f t n ≡ done (moved l a f t n)
+pub transfer_made : (l : Ledger) (a : Asset) (f t : Holder) (n : ℕ) → n ≤ balance l a f → f ≢ t → transfer l a f t n ≡ ledger_only (with_transfer l a f t n)
 unfolding transfer
 transfer_made l a f t n funds apart =
     let enough : nat_lt (balance l a f) n ≡ false = le-ltb (balance l a f) n funds in

@@ -8,10 +8,12 @@ use Rattle.amm_names.specs.declared.holder.Holder.TheVariants as holders
 use Rattle.amm_names.specs.declared.holder.Asset.TheVariants as assets
 use Rattle.amm_model.specs.declared.problem.ProblemPool.{ProblemPool}
 use Rattle.amm_model.specs.declared.route.Leg.{Leg}
-use Rattle.amm_model.specs.Ledger.{Ledger, balance, done}
+use Rattle.amm_model.specs.Ledger.{Ledger, balance}
+use Rattle.amm_model.specs.Outcome.{ledger_only}
 use Rattle.amm_model.specs.Swap.{amount_out_of}
-use Rattle.amm_model.specs.Routing.{Name, IsBefore, IsOpenProblem, OpenView, fee_of, no_pool}
-use Rattle.amm_model.specs.Legs.{Holdings, IsLeg, leg_pool, token_in, token_out, reserve_in, reserve_out, balance_in, after_leg}
+use Rattle.amm_model.specs.Routing.{IsBefore, IsOpenProblem, OpenView, fee_of, no_pool}
+use Rattle.amm_names.specs.Names.{Name}
+use Rattle.amm_model.specs.Legs.{Inventory, IsLeg, leg_pool, token_in, token_out, reserve_in, reserve_out, balance_in, after_leg}
 use Rattle.amm_model.specs.Settlement.{perform_leg}
 use Rattle.amm_model.proofs.Names.{same_name_itself}
 use Rattle.amm_model.proofs.Problems.{before-apart, fee_of-is, tokens_differ}
@@ -22,10 +24,10 @@ use Rattle.amm_settle.proofs.OneSide.{one_done}
 -- A leg was performed.
 pub record LegDone (old : Ledger) (actor : Name) (pools : List ProblemPool) (leg : Leg) : Type 0 where
   pub ledger : Ledger
-  pub is : perform_leg old actor pools leg ≡ done ledger
+  pub is : perform_leg old actor pools leg ≡ ledger_only ledger
   pub traded : IsTraded (leg_pool pools leg) actor (token_in pools leg) (token_out pools leg) leg.input leg.output old ledger
 
-pub leg_done : (ledger : Ledger) (actor : Name) (pools : List ProblemPool) (used : List ℕ) (held : Holdings) (leg : Leg) → IsSoundPool (leg_pool pools leg) → IsAsKept ledger (leg_pool pools leg)
+pub leg_done : (ledger : Ledger) (actor : Name) (pools : List ProblemPool) (used : List ℕ) (held : Inventory) (leg : Leg) → IsSoundPool (leg_pool pools leg) → IsAsKept ledger (leg_pool pools leg)
     → IsLeg pools used held leg → leg.input ≤ balance ledger (assets.Token (token_in pools leg)) (holders.User actor) → LegDone ledger actor pools leg
 unfolding perform_leg
 leg_done ledger actor pools used held leg sound kept legal funds = by_side leg.pool leg.zero_in leg.input leg.output sound kept legal.positive legal.gives legal.pays legal.room legal.admissible funds
@@ -55,7 +57,7 @@ told_no : (x y : Name) → bytes_eq x y ≡ false → x ≢ y
 told_no x y test e = let yes : bytes_eq x y ≡ true = ap (bytes_eq x) (sym e) ∙ same_name_itself x in cc
 
 -- a leg moves what the actor has as it moves the holdings
-pub leg_tokens : (pools : List ProblemPool) (held : Holdings) (leg : Leg) (actor : Name) (old new : Ledger) → token_in pools leg ≢ token_out pools leg → leg.input ≤ held (token_in pools leg)
+pub leg_tokens : (pools : List ProblemPool) (held : Inventory) (leg : Leg) (actor : Name) (old new : Ledger) → token_in pools leg ≢ token_out pools leg → leg.input ≤ held (token_in pools leg)
     → IsTraded (leg_pool pools leg) actor (token_in pools leg) (token_out pools leg) leg.input leg.output old new → (y : Name)
     → balance new (assets.Token y) (holders.User actor) + held y ≡ balance old (assets.Token y) (holders.User actor) + after_leg pools held leg y
 leg_tokens pools held leg actor old new apart within traded y =

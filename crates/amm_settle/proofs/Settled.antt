@@ -19,16 +19,17 @@ use Rattle.amm_model.specs.declared.fault.Fault.{Fault}
 use Rattle.amm_model.specs.declared.fault.Fault.TheVariants as faults
 use Rattle.amm_model.specs.declared.fault.Refusal.{Refusal}
 use Rattle.amm_model.specs.declared.fault.Refusal.TheVariants as code
-use Rattle.amm_model.specs.Outcome.{◌>>=◌, refuse_if}
-use Rattle.amm_model.specs.Ledger.{Ledger, Made, Outcome, balance, done, pair_of}
+use Rattle.amm_model.specs.Outcome.{◌>>=◌, refuse_if, Made, Outcome, ledger_only}
+use Rattle.amm_model.specs.Ledger.{Ledger, balance, pair_of}
 use Rattle.amm_model.specs.Pools.{held0, held1}
-use Rattle.amm_model.specs.Routing.{Name, IsProblem, given, no_pool, opened}
-use Rattle.amm_model.specs.Legs.{Holdings, AreLegs, Delivers, leg_pool, after_leg}
+use Rattle.amm_model.specs.Routing.{IsProblem, amount_given, no_pool, open_view}
+use Rattle.amm_names.specs.Names.{Name}
+use Rattle.amm_model.specs.Legs.{Inventory, AreLegs, Delivers, leg_pool, after_leg}
 use Rattle.amm_model.specs.Settlement.{pools_of_legs, is_locked, is_as_kept, perform_legs, settle}
 use Rattle.amm_model.proofs.Guards.{not_refused, same_answer}
 use Rattle.amm_model.proofs.Names.{same_name_itself}
 use Rattle.amm_model.proofs.Problems.{fee_of-is, tokens_differ}
-use Rattle.amm_state.specs.Tx.{Progress, Meets}
+use Rattle.amm_state.specs.Tx.{TxView, Meets}
 use Rattle.amm_settle.specs.Paid.{IsPaidAsQuoted, IsCodeOfSettling}
 use Rattle.amm_settle.specs.Places.{AreThere}
 use Rattle.amm_settle.proofs.Trading.{IsAsKept, IsSoundPool}
@@ -37,9 +38,9 @@ use Rattle.amm_settle.proofs.AllLegs.{AreAsKept, AreSoundPools, IsNoPoolOf, Legs
 -- A quote whose legs deliver its amount.
 pub record IsDeliverable (quote : Quote) : Type 0 where
   pub problem : IsProblem quote.problem
-  pub delivers : Delivers (opened quote.problem) quote.route.legs quote.delivered
+  pub delivers : Delivers (open_view quote.problem) quote.route.legs quote.delivered
 
-pub legs_there : (pools : List ProblemPool) (used : List ℕ) (held : Holdings) (legs : List Leg) → AreLegs pools used held legs → AreThere pools legs
+pub legs_there : (pools : List ProblemPool) (used : List ℕ) (held : Inventory) (legs : List Leg) → AreLegs pools used held legs → AreThere pools legs
 legs_there pools used held [] legal = tt
 legs_there pools used held (leg ∷ legs) legal = (legal.0.there, legs_there pools (leg.pool ∷ used) (after_leg pools held leg) legs legal.1)
 
@@ -101,17 +102,17 @@ no_pool_of who pools (leg ∷ legs) none =
 
 -- ---- what is asked for
 
-given_same : (quote : Quote) → given (opened quote.problem) quote.problem.s ≡ quote.problem.d
+given_same : (quote : Quote) → amount_given (open_view quote.problem) quote.problem.s ≡ quote.problem.d
 given_same quote = let same : bytes_eq quote.problem.s quote.problem.s ≡ true = same_name_itself quote.problem.s in rw same refl
 
-given_other : (quote : Quote) (y : Name) → y ≢ quote.problem.s → given (opened quote.problem) y ≡ 0
+given_other : (quote : Quote) (y : Name) → y ≢ quote.problem.s → amount_given (open_view quote.problem) y ≡ 0
 given_other quote y apart = pick (bytes_eq y quote.problem.s) (bytes_eq-Decides y quote.problem.s).0
   where
     pick : (b : Bool) → (b ≡ true → y ≡ quote.problem.s) → cond b quote.problem.d 0 ≡ 0
     pick true says = absurd (apart (says refl))
     pick false says = refl
 
-given_funded : (quote : Quote) (have : Name → ℕ) → quote.problem.d ≤ have quote.problem.s → (y : Name) → given (opened quote.problem) y ≤ have y
+given_funded : (quote : Quote) (have : Name → ℕ) → quote.problem.d ≤ have quote.problem.s → (y : Name) → amount_given (open_view quote.problem) y ≤ have y
 given_funded quote have funds y = pick (bytes_eq y quote.problem.s) (bytes_eq-Decides y quote.problem.s).0
   where
     pick : (b : Bool) → (b ≡ true → y ≡ quote.problem.s) → cond b quote.problem.d 0 ≤ have y
@@ -123,7 +124,7 @@ given_funded quote have funds y = pick (bytes_eq y quote.problem.s) (bytes_eq-De
 -- A quote was settled.
 pub record SettleDone (old : Ledger) (actor : Name) (quote : Quote) : Type 0 where
   pub ledger : Ledger
-  pub is : perform_legs old actor quote.problem.pools quote.route.legs ≡ done ledger
+  pub is : perform_legs old actor quote.problem.pools quote.route.legs ≡ ledger_only ledger
   pub paid : IsPaidAsQuoted old ledger actor quote
 
 module _ (old : Ledger) (actor : Name) (quote : Quote) (fits : IsDeliverable quote) where
@@ -134,7 +135,7 @@ module _ (old : Ledger) (actor : Name) (quote : Quote) (fits : IsDeliverable quo
   pub legs_pay : any_locked old (pools_of_legs quote) ≡ false → all_as_kept old (pools_of_legs quote) ≡ true → nat_lt (have old quote.problem.s) quote.problem.d ≡ false → SettleDone old actor quote
   legs_pay free kept funded =
       let funds : quote.problem.d ≤ have old quote.problem.s = grind (arith, nat_tests) in
-      let legs = legs_done quote.problem.pools (sound_pools quote fits) quote.route.legs [] (given (opened quote.problem)) actor old fits.delivers.0
+      let legs = legs_done quote.problem.pools (sound_pools quote fits) quote.route.legs [] (amount_given (open_view quote.problem)) actor old fits.delivers.0
       (all_kept old quote.problem.pools quote.route.legs free kept) (given_funded quote (have old) funds) in
       let apart : quote.problem.s ≢ quote.problem.t = fits.problem.parts.apart 0 (record { token = quote.problem.s; amount = quote.problem.d }) (omega arith) in
       record {
@@ -148,7 +149,7 @@ module _ (old : Ledger) (actor : Name) (quote : Quote) (fits : IsDeliverable quo
         };
       }
     where
-      keeps : (legs : LegsDone old actor quote.problem.pools (given (opened quote.problem)) quote.route.legs) → (other : Asset) → other ≢ assets.Token quote.problem.s
+      keeps : (legs : LegsDone old actor quote.problem.pools (amount_given (open_view quote.problem)) quote.route.legs) → (other : Asset) → other ≢ assets.Token quote.problem.s
           → balance old other (holders.User actor) ≤ balance legs.ledger other (holders.User actor)
       keeps legs (assets.Token y) apart = omega (arith, legs.tokens y, given_other quote y (λ e. apart (ap assets.Token e)))
       keeps legs (assets.Share pool) apart = omega (arith, legs.shares pool)
@@ -195,7 +196,7 @@ settle_pays old actor quote deadline made fits is =
     subst (λ (l : Ledger). IsPaidAsQuoted old l actor quote) e d.paid
 
 -- a call that met its definition was refused as the definition is
-pub refused_so : {A : Type 0} (old new : Progress) (answer : Result A Fault) (outcome : Outcome A) → Meets old new answer outcome → (why : Refusal) → answer ≡ Err (faults.Refused why) → outcome ≡ Err why
+pub refused_so : {A : Type 0} (old new : TxView) (answer : Result A Fault) (outcome : Outcome A) → Meets old new answer outcome → (why : Refusal) → answer ≡ Err (faults.Refused why) → outcome ≡ Err why
 refused_so old new (Ok x) outcome met why is = cc
 refused_so old new (Err (faults.Refused other)) outcome met why is = met.gives ∙ ap Err (let e : other ≡ why = cc in e)
 refused_so old new (Err faults.Memory) outcome met why is = cc

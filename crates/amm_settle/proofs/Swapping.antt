@@ -9,11 +9,12 @@ use Rattle.amm_names.specs.Pools.{pool_token0, pool_token1, pool_fee}
 use Rattle.amm_model.specs.declared.pair.PairRecord.{PairRecord}
 use Rattle.amm_model.specs.declared.pair.SwapReceipt.{SwapReceipt}
 use Rattle.amm_model.specs.declared.limits.TheConstants.{RESERVE_LIMIT}
-use Rattle.amm_model.specs.Outcome.{◌>>=◌, refuse_if}
-use Rattle.amm_model.specs.Ledger.{Ledger, Made, balance, done, moved, pair_of, with_pair, transfer}
+use Rattle.amm_model.specs.Outcome.{◌>>=◌, refuse_if, Made, ledger_only}
+use Rattle.amm_model.specs.Ledger.{Ledger, balance, with_transfer, pair_of, with_pair}
+use Rattle.amm_model.specs.Postings.{transfer}
 use Rattle.amm_model.specs.Pools.{asset0, asset1, held0, held1}
 use Rattle.amm_model.specs.Swap.{admits}
-use Rattle.amm_model.specs.Operations.{renewed, updated_to, unlocked, both_sent, lendable, came_to, settled, swap}
+use Rattle.amm_model.specs.Operations.{renewed_record, updated_record_to, unlocked_pair, send_both, lending_pair, came_to, settle_swap, swap}
 use Rattle.amm_model.proofs.Soundness.{tokens_apart}
 use Rattle.amm_pair.specs.Straight.{swap_straight}
 use Rattle.amm_pair.proofs.Straight.{swap_is_straight}
@@ -49,8 +50,8 @@ pub record SwapDone (old : Ledger) (pool : List ℕ) (out0 out1 : ℕ) (actor : 
   pub leaves : IsSwapped pool out0 out1 (holders.User actor) old value.ledger
 
 module _ (ledger : Ledger) (pool : List ℕ) (pair : PairRecord) (out0 out1 b0 b1 : ℕ) (actor : List ℕ) (can : CanSwap ledger pool pair out0 out1 b0 b1) where
-  lends : lendable ledger pool out0 out1 (holders.User actor) ≡ Ok pair
-  unfolding lendable
+  lends : lending_pair ledger pool out0 out1 (holders.User actor) ≡ Ok pair
+  unfolding lending_pair
   lends =
       let less : (nat_le pair.r0 out0 || nat_le pair.r1 out1) ≡ false = grind (arith, nat_tests, can.within0, can.within1) in
       rw (can.there, can.free, can.some, less) refl
@@ -59,10 +60,10 @@ module _ (ledger : Ledger) (pool : List ℕ) (pair : PairRecord) (out0 out1 b0 b
   not_itself e = cc
 
   abbrev half : Ledger
-  half = moved ledger (asset0 pool) (holders.Pool pool) (holders.User actor) out0
+  half = with_transfer ledger (asset0 pool) (holders.Pool pool) (holders.User actor) out0
 
   abbrev sent : Ledger
-  sent = moved half (asset1 pool) (holders.Pool pool) (holders.User actor) out1
+  sent = with_transfer half (asset1 pool) (holders.Pool pool) (holders.User actor) out1
 
   first : Moved (asset0 pool) (holders.Pool pool) (holders.User actor) out0 ledger half
   first = moved_moved ledger (asset0 pool) (holders.Pool pool) (holders.User actor) out0 (omega (arith, can.left0)) not_itself
@@ -86,19 +87,19 @@ module _ (ledger : Ledger) (pool : List ℕ) (pair : PairRecord) (out0 out1 b0 b
   now1 : held1 sent pool ≡ b1
   now1 = omega (arith, second.less, still1, can.left1)
 
-  both : both_sent ledger pool out0 out1 (holders.User actor) ≡ done sent
-  unfolding both_sent
+  both : send_both ledger pool out0 out1 (holders.User actor) ≡ ledger_only sent
+  unfolding send_both
   both = rw (transfer_made ledger (asset0 pool) (holders.Pool pool) (holders.User actor) out0 (omega (arith, can.left0)) not_itself)
       (transfer_made half (asset1 pool) (holders.Pool pool) (holders.User actor) out1 funds1 not_itself)
 
   abbrev new : PairRecord
-  new = unlocked (renewed pair ledger.time (held0 sent pool) (held1 sent pool))
+  new = unlocked_pair (renewed_record pair ledger.time (held0 sent pool) (held1 sent pool))
 
   abbrev made : Made SwapReceipt
   made = record { ledger = with_pair sent pool new; answer = came_to pair (held0 sent pool) (held1 sent pool) out0 out1 }
 
-  ends : settled sent pool pair out0 out1 ≡ Ok made
-  unfolding settled updated_to
+  ends : settle_swap sent pool pair out0 out1 ≡ Ok made
+  unfolding settle_swap updated_record_to
   ends =
       let room0 : nat_lt RESERVE_LIMIT (held0 sent pool) ≡ false = le-ltb RESERVE_LIMIT (held0 sent pool) (omega (arith, now0, can.room0)) in
       let room1 : nat_lt RESERVE_LIMIT (held1 sent pool) ≡ false = le-ltb RESERVE_LIMIT (held1 sent pool) (omega (arith, now1, can.room1)) in

@@ -11,11 +11,13 @@ use Rattle.amm_model.specs.declared.pair.PairRecord.{PairRecord}
 use Rattle.amm_model.specs.declared.problem.ProblemPool.{ProblemPool}
 use Rattle.amm_model.specs.declared.route.Leg.{Leg}
 use Rattle.amm_model.specs.declared.limits.TheConstants.{RESERVE_LIMIT}
-use Rattle.amm_model.specs.Outcome.{◌>>=◌}
-use Rattle.amm_model.specs.Ledger.{Ledger, Made, Pairs, balance, done, moved, pair_of, set_pair, with_pair, transfer}
+use Rattle.amm_model.specs.Outcome.{◌>>=◌, Made, ledger_only}
+use Rattle.amm_model.specs.Ledger.{Ledger, Pairs, balance, with_transfer, pair_of, set_pair, with_pair}
+use Rattle.amm_model.specs.Postings.{transfer}
 use Rattle.amm_model.specs.Pools.{asset0, asset1, held0, held1}
 use Rattle.amm_model.specs.Swap.{Admits, IsFee, admits, amount_out_of}
-use Rattle.amm_model.specs.Routing.{Name, HasReserves, HasBalances, fee_of, token0_of, token1_of}
+use Rattle.amm_model.specs.Routing.{HasReserves, HasBalances, fee_of, token0_of, token1_of}
+use Rattle.amm_names.specs.Names.{Name}
 use Rattle.amm_model.specs.Legs.{IsLeg, leg_pool, token_in, token_out, reserve_in, reserve_out, balance_in}
 use Rattle.amm_model.specs.Operations.{swap}
 use Rattle.amm_model.specs.Settlement.{perform_leg}
@@ -54,7 +56,7 @@ pub record IsTraded (pool : ProblemPool) (actor : Name) (from to : Name) (input 
 -- A payment and a swap, and what they leave.
 pub record TradeDone (old : Ledger) (pool : ProblemPool) (actor : Name) (from to : Name) (out0 out1 input output : ℕ) : Type 0 where
   pub ledger : Ledger
-  pub is : (transfer old (assets.Token from) (holders.User actor) (holders.Pool pool.name) input >>= λ sent. (swap sent.ledger pool.name out0 out1 (holders.User actor) >>= λ made. done made.ledger)) ≡ done ledger
+  pub is : (transfer old (assets.Token from) (holders.User actor) (holders.Pool pool.name) input >>= λ sent. (swap sent.ledger pool.name out0 out1 (holders.User actor) >>= λ made. ledger_only made.ledger)) ≡ ledger_only ledger
   pub traded : IsTraded pool actor from to input output old ledger
 
 -- what an account has after the payment and both outputs, where none of them touches it

@@ -11,11 +11,13 @@ use Rattle.amm_model.specs.declared.pair.PairRecord.{PairRecord}
 use Rattle.amm_model.specs.declared.problem.ProblemPool.{ProblemPool}
 use Rattle.amm_model.specs.declared.route.Leg.{Leg}
 use Rattle.amm_model.specs.declared.limits.TheConstants.{RESERVE_LIMIT}
-use Rattle.amm_model.specs.Outcome.{◌>>=◌}
-use Rattle.amm_model.specs.Ledger.{Ledger, Made, Pairs, balance, done, moved, pair_of, set_pair, with_pair, transfer}
+use Rattle.amm_model.specs.Outcome.{◌>>=◌, Made, ledger_only}
+use Rattle.amm_model.specs.Ledger.{Ledger, Pairs, balance, with_transfer, pair_of, set_pair, with_pair}
+use Rattle.amm_model.specs.Postings.{transfer}
 use Rattle.amm_model.specs.Pools.{asset0, asset1, held0, held1}
 use Rattle.amm_model.specs.Swap.{Admits, IsFee, admits, amount_out_of}
-use Rattle.amm_model.specs.Routing.{Name, HasReserves, HasBalances, fee_of, token0_of, token1_of}
+use Rattle.amm_model.specs.Routing.{HasReserves, HasBalances, fee_of, token0_of, token1_of}
+use Rattle.amm_names.specs.Names.{Name}
 use Rattle.amm_model.specs.Legs.{IsLeg, leg_pool, token_in, token_out, reserve_in, reserve_out, balance_in}
 use Rattle.amm_model.specs.Operations.{swap}
 use Rattle.amm_model.specs.Settlement.{perform_leg}
@@ -34,7 +36,7 @@ module _ (ledger : Ledger) (pool : ProblemPool) (actor : Name) (x y : ℕ) (kept
   not_itself e = cc
 
   abbrev paid : Ledger
-  paid = moved ledger (asset0 pool.name) (holders.User actor) (holders.Pool pool.name) x
+  paid = with_transfer ledger (asset0 pool.name) (holders.User actor) (holders.Pool pool.name) x
 
   in_apart : (◌≢◌ {A = Asset} (asset0 pool.name) (asset1 pool.name))
   in_apart = tokens_apart (pool_token0 pool.name) (pool_token1 pool.name) (λ e. sound.apart e)

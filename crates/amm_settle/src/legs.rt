@@ -2,7 +2,7 @@
 ghost use Rattle.std.specs.Prelude.{◌≡◌, ◌<◌, OnOk, length};
 ghost use Rattle.amm_names.specs.declared.holder.Asset.TheVariants as assets;
 ghost use Rattle.amm_names.specs.declared.holder.Holder.TheVariants as holders;
-ghost use Rattle.amm_model.specs.Ledger.{transfer};
+ghost use Rattle.amm_model.specs.Postings.{transfer};
 ghost use Rattle.amm_model.specs.Legs.{token_in};
 ghost use Rattle.amm_model.specs.Settlement.{perform_leg, perform_legs};
 ghost use Rattle.amm_model.specs.Sound.{IsSound};

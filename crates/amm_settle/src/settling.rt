@@ -3,7 +3,7 @@ ghost use Rattle.std.specs.Prelude.{◌≡◌, Err, OnOk};
 ghost use Rattle.amm_model.specs.declared.fault.Fault.TheVariants.{Refused};
 ghost use Rattle.amm_model.specs.declared.fault.Refusal.{Refusal as Code};
 ghost use Rattle.amm_model.specs.Legs.{Delivers};
-ghost use Rattle.amm_model.specs.Routing.{opened};
+ghost use Rattle.amm_model.specs.Routing.{open_view};
 ghost use Rattle.amm_model.specs.Settlement.{settle};
 ghost use Rattle.amm_model.specs.Sound.{IsSound};
 ghost use Rattle.amm_state.specs.Tx.{Meets};
@@ -30,7 +30,7 @@ pub fn settle(
 ) -> Result<u64, Fault>
     requires clean { tx.old.mark ≡ Mark.Clean }
     requires sound { IsSound tx.old.present }
-    requires delivers { Delivers (opened quote.now.problem) quote.now.route.legs quote.now.delivered }
+    requires delivers { Delivers (open_view quote.now.problem) quote.now.route.legs quote.now.delivered }
     ensures meets { Meets tx.old tx.new result (settle tx.old.present actor.now quote.now deadline) }
     ensures sound { OnOk result (IsSound tx.new.present) }
     ensures paid { OnOk result (IsPaidAsQuoted tx.old.present tx.new.present actor.now quote.now) }

@@ -1,7 +1,7 @@
 //! One quote, settled over the pool that it was made over, and after each change that stops it.
 ghost use Rattle.std.specs.Prelude.{◌≡◌};
 ghost use Rattle.amm_model.specs.Legs.{Delivers};
-ghost use Rattle.amm_model.specs.Routing.{opened};
+ghost use Rattle.amm_model.specs.Routing.{open_view};
 ghost use Rattle.amm_model.specs.Sound.{IsAtRest};
 ghost use Rattle.amm_state.specs.declared.mark.Mark.{Mark};
 
@@ -37,7 +37,7 @@ fn outcome(
 ) -> Result<u64, Fault>
     requires clean { tx.old.mark ≡ Mark.Clean }
     requires rest { IsAtRest tx.old.present }
-    requires delivers { Delivers (opened quote.now.problem) quote.now.route.legs quote.now.delivered }
+    requires delivers { Delivers (open_view quote.now.problem) quote.now.route.legs quote.now.delivered }
 {
     match before {
         Before::Nothing => settle(alloc, tx, &names.alice, quote, 0),

@@ -3,7 +3,7 @@ use Rattle.std.proofs.Common.{◌≡◌, ℕ, ◌≤◌, List, arith, subst}
 use Rattle.std.specs.Prelude.{sum_by}
 use Rattle.amm_model.specs.declared.route.Leg.{Leg}
 use Rattle.amm_model.specs.declared.route.Quote.{Quote}
-use Rattle.amm_model.specs.Routing.{ProblemView, opened}
+use Rattle.amm_model.specs.Routing.{ProblemView, open_view}
 use Rattle.amm_model.specs.Legs.{Delivers}
 use Rattle.amm_model.specs.Bound.{bound_of}
 use Rattle.amm_model.specs.Settled.{IsSettled}
@@ -17,7 +17,7 @@ use Rattle.amm_split.proofs.Taken.{spread_over}
 
 -- at least what the legs of a spread deliver
 pub of_legs : (problem : ProblemView) (spread : Spread) (legs : List Leg) (amount : ℕ) → IsSpreadRoute problem spread legs →
-    ((value : ℕ) → Delivers (opened problem) legs value → value ≤ amount) → AtLeastSpread spread amount
+    ((value : ℕ) → Delivers (open_view problem) legs value → value ≤ amount) → AtLeastSpread spread amount
 of_legs problem spread legs amount is least = at-least-each spread is.shares amount is.taken (least (sum_by (share_output spread) is.shares) is.delivers)
 
 pub still : (spread : Spread) (less amount : ℕ) → less ≤ amount → AtLeastSpread spread less → AtLeastSpread spread amount
@@ -38,8 +38,8 @@ pub ways_still : (problem : ProblemView) (less amount : ℕ) → less ≤ amount
 ways_still problem less amount more at value is = let least = at value is in omega arith
 
 -- a quote of the problem that has all that an answer needs
-pub answers : (problem : ProblemView) (quote : Quote) → quote.problem ≡ problem → IsSettled (opened problem) quote.prices → quote.bound ≡ bound_of (opened problem) quote.prices →
-    Delivers (opened problem) quote.route.legs quote.delivered → AtLeastTheWays problem.pools problem.s problem.t problem.d quote.delivered → AtLeastSpreads problem quote.prices quote.delivered → IsSplitAnswer quote
+pub answers : (problem : ProblemView) (quote : Quote) → quote.problem ≡ problem → IsSettled (open_view problem) quote.prices → quote.bound ≡ bound_of (open_view problem) quote.prices →
+    Delivers (open_view problem) quote.route.legs quote.delivered → AtLeastTheWays problem.pools problem.s problem.t problem.d quote.delivered → AtLeastSpreads problem quote.prices quote.delivered → IsSplitAnswer quote
 answers problem quote same settled bound delivers ways spreads = record {
   settled = rw same settled;
   bound = rw same bound;

@@ -5,7 +5,7 @@ use Rattle.std.proofs.Math.ListN.{length-map}
 use Rattle.std.proofs.lemmas.List.{get_or-map}
 use Rattle.amm_model.specs.declared.problem.ProblemPool.{ProblemPool}
 use Rattle.amm_model.specs.declared.route.Hop.{Hop}
-use Rattle.amm_model.specs.Routing.{Name}
+use Rattle.amm_names.specs.Names.{Name}
 use Rattle.amm_model.specs.Paths.{AreAllPaths, AreApart, IsHop, IsPath, gives, hop_places}
 use Rattle.amm_model.specs.Values.{AtLeastTheWays, IsOneOrTwoWayValue, sixteenths}
 use Rattle.amm_graph.specs.declared.path.Path.{Path}

@@ -6,7 +6,7 @@ use Rattle.std.proofs.lemmas.List.Sums.{sum_by-cons}
 use Rattle.amm_model.specs.declared.problem.ProblemPool.{ProblemPool}
 use Rattle.amm_model.specs.declared.route.Hop.{Hop}
 use Rattle.amm_model.specs.declared.route.Leg.{Leg}
-use Rattle.amm_model.specs.Routing.{ProblemView, opened}
+use Rattle.amm_model.specs.Routing.{ProblemView, open_view}
 use Rattle.amm_model.specs.Legs.{Delivers}
 use Rattle.amm_model.specs.Paths.{AreApart, IsPath, gives, hop_places}
 use Rattle.amm_model.specs.Values.{sixteenths}
@@ -34,19 +34,19 @@ sixteenths-le d k small = go (16 - k) (omega arith)
 
 -- one path
 pub one-delivers : (problem : ProblemView) (path : List Hop) (x amount : ℕ) (legs : List Leg) → problem.s ≢ problem.t → IsPath problem.pools problem.s problem.t path →
-    x ≤ problem.d → 1 ≤ amount → amount ≡ gives problem.pools path x → legs ≡ legs_along problem.pools path x → Delivers (opened problem) legs amount
+    x ≤ problem.d → 1 ≤ amount → amount ≡ gives problem.pools path x → legs ≡ legs_along problem.pools path x → Delivers (open_view problem) legs amount
 one-delivers problem path x amount legs ends is within some given are =
     let portions : List Portion = record { path = path; input = x } ∷ [] in
     let deliver = portions-deliver problem portions ends (is, free (hop_places path), within, omega (arith, given), tt) in
     let sum : given_by problem.pools portions ≡ amount = omega (arith, given, sum_by-cons (λ (portion : Portion). gives problem.pools portion.path portion.input) (record { path = path; input = x }) []) in
-    subst (λ (l : List Leg). Delivers (opened problem) l amount) (append-nil (legs_along problem.pools path x) ∙ sym are)
-    (subst (λ (n : ℕ). Delivers (opened problem) (legs_of problem.pools portions) n) sum deliver)
+    subst (λ (l : List Leg). Delivers (open_view problem) l amount) (append-nil (legs_along problem.pools path x) ∙ sym are)
+    (subst (λ (n : ℕ). Delivers (open_view problem) (legs_of problem.pools portions) n) sum deliver)
 
 -- two paths without a common pool
 pub two-deliver : (problem : ProblemView) (first second : List Hop) (x y amount : ℕ) (legs : List Leg) → problem.s ≢ problem.t →
     IsPath problem.pools problem.s problem.t first → IsPath problem.pools problem.s problem.t second → AreApart (hop_places first) (hop_places second) →
     x ≤ problem.d → y ≤ problem.d - x → 1 ≤ gives problem.pools first x → 1 ≤ gives problem.pools second y → amount ≡ gives problem.pools first x + gives problem.pools second y →
-    legs ≡ legs_along problem.pools first x ++ legs_along problem.pools second y → Delivers (opened problem) legs amount
+    legs ≡ legs_along problem.pools first x ++ legs_along problem.pools second y → Delivers (open_view problem) legs amount
 two-deliver problem first second x y amount legs ends is-first is-second apart within rest some-first some-second given are =
     let portions : List Portion = record { path = first; input = x } ∷ record { path = second; input = y } ∷ [] in
     let deliver = portions-deliver problem portions ends
@@ -58,7 +58,7 @@ two-deliver problem first second x y amount legs ends is-first is-second apart w
       sum_by-cons (λ (portion : Portion). gives problem.pools portion.path portion.input) (record { path = second; input = y }) [],
     ) in
     let joined : legs_of problem.pools portions ≡ legs = ap (λ (l : List Leg). legs_along problem.pools first x ++ l) (append-nil (legs_along problem.pools second y)) ∙ sym are in
-    subst (λ (l : List Leg). Delivers (opened problem) l amount) joined (subst (λ (n : ℕ). Delivers (opened problem) (legs_of problem.pools portions) n) sum deliver)
+    subst (λ (l : List Leg). Delivers (open_view problem) l amount) joined (subst (λ (n : ℕ). Delivers (open_view problem) (legs_of problem.pools portions) n) sum deliver)
 
 -- a way that gives something is one of the list's
 pub the_way : (pools : List ProblemPool) (paths : List Path) (d : ℕ) (way : BestWay) → (way.amount ≡ 0) ⊎ IsWayOf pools paths d way → (way.amount ≡ 0 → ⊥) → IsWayOf pools paths d way
@@ -79,5 +79,5 @@ pub found_some : (problem : ProblemView) (o : Option Delivery) (found : Delivery
 found_some problem o found is of = subst (λ (q : Option Delivery). MatchOption q (HasNoRoute problem) (λ (f : Delivery). IsBestOfWays problem f)) is of
 
 -- no legs deliver nothing
-pub nothing-delivers : (problem : ProblemView) → problem.s ≢ problem.t → Delivers (opened problem) [] 0
+pub nothing-delivers : (problem : ProblemView) → problem.s ≢ problem.t → Delivers (open_view problem) [] 0
 nothing-delivers problem ends = portions-deliver problem [] ends tt

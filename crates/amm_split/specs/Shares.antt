@@ -3,7 +3,8 @@ use Rattle.std.specs.Prelude.{ℕ, ◌≡◌, ◌-◌, ◌*◌, ◌<◌, ◌≤�
 use Rattle.amm_model.specs.declared.problem.ProblemPool.{ProblemPool}
 use Rattle.amm_model.specs.declared.route.Hop.{Hop}
 use Rattle.amm_model.specs.declared.route.Leg.{Leg}
-use Rattle.amm_model.specs.Routing.{Name, ProblemView, opened}
+use Rattle.amm_model.specs.Routing.{ProblemView, open_view}
+use Rattle.amm_names.specs.Names.{Name}
 use Rattle.amm_model.specs.Bound.{price_of}
 use Rattle.amm_model.specs.Legs.{Delivers}
 use Rattle.amm_model.specs.Paths.{AreApart, gives, hop_places}
@@ -94,7 +95,7 @@ pub record IsBest (terms : Terms) (left : ℕ) (used : List ℕ) (paths : List P
 pub record IsSpreadRoute (problem : ProblemView) (spread : Spread) (legs : List Leg) : Type 0 where
   pub shares : List Share
   pub taken : AreTaken spread 16 [] shares
-  pub delivers : Delivers (opened problem) legs (sum_by (share_output spread) shares)
+  pub delivers : Delivers (open_view problem) legs (sum_by (share_output spread) shares)
 
 -- shares of so many sixteenths, each where it gives most
 abbrev pub equal_terms : (d size : ℕ) → Terms

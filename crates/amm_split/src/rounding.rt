@@ -1,6 +1,6 @@
 //! Routes that deliver at least each spread value.
 ghost use Rattle.std.specs.Prelude.{◌≡◌, ◌≤◌, ◌<◌, ◌^◌, ℕ, IfOk, length, map};
-ghost use Rattle.amm_model.specs.Routing.{opened};
+ghost use Rattle.amm_model.specs.Routing.{open_view};
 ghost use Rattle.amm_model.specs.Legs.{Delivers};
 ghost use Rattle.amm_model.specs.Paths.{AreAllPaths};
 ghost use Rattle.amm_model.specs.Spreads.{AtLeastSpread, AtLeastSpreads};
@@ -21,7 +21,7 @@ use std::alloc::Global;
 /// price for each token of the problem.
 pub fn round(alloc: Global, problem: &Problem, prices: &Prices) -> Result<Route, Memory>
     requires { length prices.now ≡ length problem.now.tokens }
-    ensures { IfOk result (λ route. (amount : ℕ) × Delivers (opened problem.now) route.legs amount × AtLeastSpreads problem.now prices.now amount) }
+    ensures { IfOk result (λ route. (amount : ℕ) × Delivers (open_view problem.now) route.legs amount × AtLeastSpreads problem.now prices.now amount) }
 {
     let all = paths(alloc, problem)?;
     let plan = planned(alloc, problem.as_open())?;
@@ -32,7 +32,7 @@ pub fn round(alloc: Global, problem: &Problem, prices: &Prices) -> Result<Route,
 
 // No legs deliver nothing.
 fn no_legs(alloc: Global, problem: &Problem) -> Delivery
-    ensures { Delivers (opened problem.now) result.legs result.amount }
+    ensures { Delivers (open_view problem.now) result.legs result.amount }
 {
     let _apart = source_amount(problem);
     Delivery {
@@ -51,8 +51,8 @@ pub fn rounded(
 ) -> Result<Delivery, Memory>
     requires paths { AreAllPaths problem.now.pools problem.now.s problem.now.t (map hops_of paths.now) }
     requires prices { length prices.now ≡ length problem.now.tokens }
-    requires kept { Delivers (opened problem.now) kept.legs kept.amount }
-    ensures delivers { IfOk result (λ best. Delivers (opened problem.now) best.legs best.amount) }
+    requires kept { Delivers (open_view problem.now) kept.legs kept.amount }
+    ensures delivers { IfOk result (λ best. Delivers (open_view problem.now) best.legs best.amount) }
     ensures more { IfOk result (λ best. kept.amount ≤ best.amount) }
     ensures spreads { IfOk result (λ best. AtLeastSpreads problem.now prices.now best.amount) }
 {
@@ -79,8 +79,8 @@ fn with_spread(
     requires rows { AreRows problem.now.pools paths.now problem.now.d rows.now }
     requires terms { AreTerms terms.now }
     requires amount { terms.now.d ≡ problem.now.d }
-    requires kept { Delivers (opened problem.now) kept.legs kept.amount }
-    ensures delivers { IfOk result (λ best. Delivers (opened problem.now) best.legs best.amount) }
+    requires kept { Delivers (open_view problem.now) kept.legs kept.amount }
+    ensures delivers { IfOk result (λ best. Delivers (open_view problem.now) best.legs best.amount) }
     ensures more { IfOk result (λ best. kept.amount ≤ best.amount) }
     ensures spread { IfOk result (λ best. AtLeastSpread (spread_on problem.now.pools problem.now.s problem.now.t terms.now) best.amount) }
 {

@@ -1,6 +1,6 @@
 //! The best of one and two ways, as legs.
 ghost use Rattle.std.specs.Prelude.{◌≡◌, ℕ, IfOk, MatchOption, map};
-ghost use Rattle.amm_model.specs.Routing.{opened};
+ghost use Rattle.amm_model.specs.Routing.{open_view};
 ghost use Rattle.amm_model.specs.Legs.{Delivers};
 ghost use Rattle.amm_model.specs.Paths.{AreAllPaths};
 ghost use Rattle.amm_model.specs.SplitAnswers.{HasNoRoute};
@@ -21,7 +21,7 @@ use std::alloc::Global;
 /// A route of the problem that delivers its greatest one-way or two-way value; None exactly where
 /// it has none.
 pub fn best_two_way(alloc: Global, problem: &Problem) -> Result<Option<Route>, Memory>
-    ensures { IfOk result (λ best. MatchOption best (HasNoRoute problem.now) (λ route. (amount : ℕ) × Delivers (opened problem.now) route.legs amount
+    ensures { IfOk result (λ best. MatchOption best (HasNoRoute problem.now) (λ route. (amount : ℕ) × Delivers (open_view problem.now) route.legs amount
         × IsOneOrTwoWayValue problem.now.pools problem.now.s problem.now.t problem.now.d amount
         × AtLeastTheWays problem.now.pools problem.now.s problem.now.t problem.now.d amount)) }
 {
@@ -61,7 +61,7 @@ fn legs_of_way(
 ) -> Result<LegList, Memory>
     requires paths { AreAllPaths problem.now.pools problem.now.s problem.now.t (map hops_of paths.now) }
     requires way { IsWayOf problem.now.pools paths.now problem.now.d way.now }
-    ensures { IfOk result (λ legs. Delivers (opened problem.now) legs way.now.amount) }
+    ensures { IfOk result (λ legs. Delivers (open_view problem.now) legs way.now.amount) }
 {
     let d = source_amount(problem);
     let x = sixteenths(d, way.k as usize);

@@ -4,7 +4,9 @@ use Rattle.std.proofs.lemmas.Bool.{le-ltb}
 use Rattle.amm_names.specs.declared.holder.Holder.{Holder}
 use Rattle.amm_names.specs.declared.holder.Asset.{Asset}
 use Rattle.amm_names.specs.Order.{same_holder, same_asset}
-use Rattle.amm_model.specs.Ledger.{Holdings, HoldingsByAsset, Ledger, amount, set_amount, holdings_of, set_holdings, balance, set_balance, done, added, taken, moved, transfer, opening_ledger, with_setter}
+use Rattle.amm_model.specs.Ledger.{Holdings, HoldingsByAsset, Ledger, amount, set_amount, holdings_of, set_holdings, balance, set_balance, with_more, with_less, with_transfer, opening_ledger, with_setter}
+use Rattle.amm_model.specs.Outcome.{ledger_only}
+use Rattle.amm_model.specs.Postings.{transfer}
 use Rattle.amm_model.proofs.Names.{same_holder_is, same_asset_is}
 use Rattle.amm_model.specs.Tidy.{IsTidy, IsTidyByAsset}
 use Rattle.amm_model.proofs.LedgerLemmas.{IsTidy-empty, IsTidy-set_amount, IsTidyByAsset-empty, IsTidyByAsset-set_holdings, holdings_of-empty, same_held, same_holdings, amount-set_amount, holdings_of-set_holdings}
@@ -43,18 +45,18 @@ set_balance-same l a h c = ap (λ (x : HoldingsByAsset). record l { holdings = x
     (ap (set_holdings l.holdings a) (set_amount-same (holdings_of l.holdings a) h (c.amounts a)) ∙ set_holdings-same l.holdings a c.assets)
 
 -- to take no units away changes nothing
-pub taken-nothing : (l : Ledger) (a : Asset) (h : Holder) → IsCanonical l → taken l a h 0 ≡ l
+pub taken-nothing : (l : Ledger) (a : Asset) (h : Holder) → IsCanonical l → with_less l a h 0 ≡ l
 taken-nothing l a h c = let same : balance l a h - 0 ≡ balance l a h = omega arith in ap (set_balance l a h) same ∙ set_balance-same l a h c
 
-added-nothing : (l : Ledger) (a : Asset) (h : Holder) → IsCanonical l → added l a h 0 ≡ l
+added-nothing : (l : Ledger) (a : Asset) (h : Holder) → IsCanonical l → with_more l a h 0 ≡ l
 added-nothing l a h c = let same : balance l a h + 0 ≡ balance l a h = omega arith in ap (set_balance l a h) same ∙ set_balance-same l a h c
 
 -- to move no units changes nothing
-pub moved-nothing : (l : Ledger) (a : Asset) (f t : Holder) → IsCanonical l → moved l a f t 0 ≡ l
-moved-nothing l a f t c = ap (λ (x : Ledger). added x a t 0) (taken-nothing l a f c) ∙ added-nothing l a t c
+pub moved-nothing : (l : Ledger) (a : Asset) (f t : Holder) → IsCanonical l → with_transfer l a f t 0 ≡ l
+moved-nothing l a f t c = ap (λ (x : Ledger). with_more x a t 0) (taken-nothing l a f c) ∙ added-nothing l a t c
 
 -- a transfer to another
-pub transfer-apart : (l : Ledger) (a : Asset) (f t : Holder) (n : ℕ) → n ≤ balance l a f → same_holder f t ≡ false → transfer l a f t n ≡ done (moved l a f t n)
+pub transfer-apart : (l : Ledger) (a : Asset) (f t : Holder) (n : ℕ) → n ≤ balance l a f → same_holder f t ≡ false → transfer l a f t n ≡ ledger_only (with_transfer l a f t n)
 unfolding transfer
 transfer-apart l a f t n funds apart = let enough : nat_lt (balance l a f) n ≡ false = le-ltb (balance l a f) n funds in rw (enough, apart)
 

@@ -5,14 +5,12 @@ use Rattle.std.specs.Map.{lookup}
 use Rattle.std.specs.Cmp.{eq_by_cmp_equiv}
 use Rattle.amm_names.specs.declared.holder.Holder.{Holder}
 use Rattle.amm_names.specs.contracts.holder.HolderPartialEq.TheImpl as holder_is
-use Rattle.amm_names.specs.Order.{same_holder}
+use Rattle.amm_names.specs.Order.{same_holder, holder_cmp}
 use Rattle.amm_model.specs.Ledger.{amount, set_amount, sum_held}
-use Rattle.amm_names.proofs.OrderLemmas.{holder_eq, holder_total}
+use Rattle.amm_names.proofs.OrderLemmas.{holder_eq, holder_total, holder_antisymmetric}
 use Rattle.amm_model.specs.Tidy.{IsTidy}
 use Rattle.amm_model.proofs.LedgerLemmas.{amount-set_amount, amount-empty, IsTidy-empty, IsTidy-set_amount, same_held, sum_held-set_amount}
 use Rattle.std.specs.FinSet as set
-use Rattle.amm_names.specs.Order.{holder_cmp}
-use Rattle.amm_names.proofs.OrderLemmas.{holder_antisymmetric}
 use Rattle.amm_state.specs.Rows.{AssetTable, held_of, holders_of, table_of, with_row}
 
 abbrev pub eq : Holder → Holder → Bool

@@ -1,8 +1,9 @@
 -- What contracts see of a book: the ledger, and which accounts have a row.
-use Rattle.std.specs.Prelude.{ℕ, List, [], ◌∷◌, ◌++◌, ◌-◌, take, length, refl}
+use Rattle.std.specs.Prelude.{ℕ, [], ◌∷◌, ◌++◌, ◌-◌, take, length, refl}
 use Rattle.std.specs.Coded.{Coded, code_by, coded×}
 use Rattle.std.specs.FinMap as map
 use Rattle.std.specs.FinSet as set
+use Rattle.amm_names.specs.Names.{Name}
 use Rattle.amm_names.specs.declared.holder.Holder.{Holder}
 use Rattle.amm_names.specs.declared.holder.Asset.{Asset}
 use Rattle.amm_model.specs.Ledger.{Pairs, Ledger, set_balance}
@@ -29,7 +30,7 @@ abbrev pub with_ledger : BookView → Ledger → BookView
 with_ledger book ledger = record book { ledger = ledger }
 
 -- the ledger with one more token, listed last
-abbrev pub with_token : Ledger → List ℕ → Ledger
+abbrev pub with_token : Ledger → Name → Ledger
 with_token ledger token = record ledger { tokens = ledger.tokens ++ token ∷ [] }
 
 -- the ledger without the token that was listed last

@@ -23,12 +23,12 @@ pub struct Tx {
 }
 
 impl Model for Tx {
-    ghost use Rattle.amm_state.specs.Tx.{Progress, progress_code};
+    ghost use Rattle.amm_state.specs.Tx.{TxView, tx_code};
     ghost use Rattle.amm_state.specs.Journal.{undo_all, IsRevertible};
 
-    ghost Value = { Progress };
+    ghost Value = { TxView };
 
-    ghost coded = { progress_code };
+    ghost coded = { tx_code };
 
     ghost view = { λ tx. record { opening = undo_all tx.journal.changes tx.book.value.ledger; present = tx.book.value.ledger; mark = tx.mark } };
 

@@ -7,7 +7,7 @@ use Rattle.amm_io.specs.Traffic.{AppendsPart, TakesAll}
 use Rattle.amm_model.specs.declared.route.Quote.{Quote}
 use Rattle.amm_model.specs.Json.{whole, wide, list}
 use Rattle.amm_model.specs.Certificate.{IsCertificateOf}
-use Rattle.amm_model.specs.Routing.{IsRoute, Trade, delivered_by, opened}
+use Rattle.amm_model.specs.Routing.{IsRoute, PoolTrade, delivered_by, open_view}
 use Rattle.amm_check.specs.declared.verdict.Verdict.{Verdict}
 use Rattle.amm_check.specs.declared.verdict.Verdict.TheVariants as verdicts
 use Rattle.amm_check.specs.Verdicts.{HasRoute, IsVerdict, amount_of}
@@ -79,4 +79,4 @@ pub record Assures (limit : ℕ) (left_before left_after written_before written_
   pub written : Appends written_before written_after (finding_line (Yes quote.delivered quote.bound))
   pub route : HasRoute quote
   pub delivers : amount_of quote ≡ quote.delivered
-  pub unbeaten : (other : List Trade) → IsRoute (opened quote.problem) other → delivered_by (opened quote.problem) other ≤ quote.bound
+  pub unbeaten : (other : List PoolTrade) → IsRoute (open_view quote.problem) other → delivered_by (open_view quote.problem) other ≤ quote.bound

@@ -6,10 +6,10 @@
 
 mod checker;
 mod finding;
-mod number;
 #[cfg(test)]
 mod tests;
 mod top;
+mod word_number;
 mod words;
 
 use amm_engine::{Seed, Status};

@@ -3,7 +3,7 @@ ghost use Rattle.std.specs.Prelude.{◌≡◌, ◌↔◌, ◌∷◌, [], IfNone,
 ghost use Rattle.exchange.specs.Words.{Asks, TextsAsk};
 ghost use Rattle.exchange.specs.declared.words.Request.{Request as Asked};
 
-use crate::number::read_number;
+use crate::word_number::read_number;
 
 /// What the words ask for.
 #[derive(Clone, Copy, Debug, PartialEq, Eq)]

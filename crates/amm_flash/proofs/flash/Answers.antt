@@ -1,6 +1,6 @@
 use Rattle.std.proofs.Common.{◌≡◌, Ok, rules}
 use Rattle.amm_names.specs.declared.holder.Holder.TheVariants as holders
-use Rattle.amm_model.specs.Ledger.{Made}
+use Rattle.amm_model.specs.Outcome.{Made}
 use Rattle.amm_model.specs.Pools.{Terms}
 use Rattle.amm_model.specs.Operations.{open_loan}
 use Rattle.amm_state.specs.declared.mark.Mark.TheVariants as mark

@@ -1,7 +1,7 @@
 //! Small borrowers, honest and hostile.
 ghost use Rattle.std.specs.Prelude.{◌≡◌};
 ghost use Rattle.amm_names.specs.declared.holder.Holder.{Holder};
-ghost use Rattle.amm_model.specs.Ledger.{transfer};
+ghost use Rattle.amm_model.specs.Postings.{transfer};
 ghost use Rattle.amm_flash.specs.End.{IsDone};
 
 use crate::{Borrower, flash};

@@ -1,6 +1,6 @@
 use Rattle.std.proofs.Common.{List, IfOk, map, subst}
 use Rattle.amm_model.specs.declared.problem.ProblemPool.{ProblemPool}
-use Rattle.amm_model.specs.Routing.{Name}
+use Rattle.amm_names.specs.Names.{Name}
 use Rattle.amm_model.specs.Paths.{AreAllPaths}
 use Rattle.amm_graph.specs.Hops.{hops_of}
 use Rattle.amm_graph.proofs.Sides.{ends_of, name_at}

@@ -1,7 +1,7 @@
 //! A pool of 1000000 ETH and 4000000 USD, alice with some ETH left, and a quote of 10000 ETH.
 ghost use Rattle.std.specs.Prelude.{◌≡◌, OnOk, IfOk};
 ghost use Rattle.amm_model.specs.Legs.{Delivers};
-ghost use Rattle.amm_model.specs.Routing.{opened};
+ghost use Rattle.amm_model.specs.Routing.{open_view};
 ghost use Rattle.amm_model.specs.Sound.{IsAtRest};
 ghost use Rattle.amm_state.specs.declared.mark.Mark.{Mark};
 
@@ -139,7 +139,7 @@ fn quoted_prices(alloc: Global) -> Result<Prices, Fail> {
 
 /// 10000 ETH for 39486 USD: floor(997*10000*4000000 / (1000*1000000 + 997*10000)) = 39486.
 pub fn quote(alloc: Global, names: &Names, pool: PoolName) -> Result<Quote, Fail>
-    ensures { IfOk result (λ quote. Delivers (opened quote.problem) quote.route.legs quote.delivered) }
+    ensures { IfOk result (λ quote. Delivers (open_view quote.problem) quote.route.legs quote.delivered) }
 {
     let pools = quoted_pools(alloc, pool)?;
     let Some(problem) = Problem::from_parts(alloc, names.eth, names.usd, 10_000, pools)? else {

@@ -1,6 +1,8 @@
 //! The listed tokens and the pairs.
 ghost use Rattle.std.specs.Prelude.{◌≡◌, ◌++◌, ◌∷◌, [], OnOk, OnErr, false, None, IsSome};
-ghost use Rattle.amm_model.specs.Ledger.{done, with_pair, list, is_listed, pair_of, add_pair, zero_pair};
+ghost use Rattle.amm_model.specs.Ledger.{with_pair, is_listed, pair_of, zero_pair};
+ghost use Rattle.amm_model.specs.Outcome.{ledger_only};
+ghost use Rattle.amm_model.specs.Postings.{list_token, add_pair};
 ghost use Rattle.amm_state.specs.declared.mark.Mark.{Mark};
 ghost use Rattle.amm_state.specs.Book.{with_token, with_pairs};
 ghost use Rattle.amm_state.specs.Tx.{Meets};
@@ -16,7 +18,7 @@ impl Tx {
     /// Lists the token, if it is not listed. `TokenLimit` exactly where 64 others are.
     pub fn list_token(&mut self, alloc: Global, token: &TokenName) -> Result<(), Fault>
         requires { self.old.mark ≡ Mark.Clean }
-        ensures { Meets self.old self.new result (list self.old.present token.now) }
+        ensures { Meets self.old self.new result (list_token self.old.present token.now) }
     {
         if self.book.has_token(token) {
             return Ok(());
@@ -73,7 +75,7 @@ impl Tx {
     pub fn set_pair(&mut self, alloc: Global, pool: &PoolName, new: PairRecord) -> Result<(), Fault>
         requires clean { self.old.mark ≡ Mark.Clean }
         requires there { IsSome (pair_of self.old.present.pairs pool.now) }
-        ensures meets { Meets self.old self.new result (done (with_pair self.old.present pool.now new)) }
+        ensures meets { Meets self.old self.new result (ledger_only (with_pair self.old.present pool.now new)) }
         ensures kept { OnErr result (self.new.present ≡ self.old.present) }
     {
         match self.write_pair(pool, new) {

@@ -1,6 +1,8 @@
 //! The receiver of the protocol's fee, its setter, and the time.
 ghost use Rattle.std.specs.Prelude.{◌≡◌, OnOk, OnErr};
-ghost use Rattle.amm_model.specs.Ledger.{done, with_fee_to, with_setter, set_time};
+ghost use Rattle.amm_model.specs.Ledger.{with_fee_to, with_setter};
+ghost use Rattle.amm_model.specs.Outcome.{ledger_only};
+ghost use Rattle.amm_model.specs.Postings.{set_time};
 ghost use Rattle.amm_state.specs.declared.mark.Mark.{Mark};
 ghost use Rattle.amm_state.specs.Book.{with_time};
 ghost use Rattle.amm_state.specs.Tx.{Meets};
@@ -15,7 +17,7 @@ impl Tx {
     /// Sets who receives the protocol's fee.
     pub fn set_fee_to(&mut self, alloc: Global, to: &Holder) -> Result<(), Fault>
         requires { self.old.mark ≡ Mark.Clean }
-        ensures { Meets self.old self.new result (done (with_fee_to self.old.present to.now)) }
+        ensures { Meets self.old self.new result (ledger_only (with_fee_to self.old.present to.now)) }
     {
         match self.write_fee_to(to) {
             Ok(()) => Ok(()),
@@ -37,7 +39,7 @@ impl Tx {
     /// Sets the user who may set the receiver of the fee.
     pub fn set_setter(&mut self, alloc: Global, to: &UserName) -> Result<(), Fault>
         requires { self.old.mark ≡ Mark.Clean }
-        ensures { Meets self.old self.new result (done (with_setter self.old.present to.now)) }
+        ensures { Meets self.old self.new result (ledger_only (with_setter self.old.present to.now)) }
     {
         match self.write_setter(to) {
             Ok(()) => Ok(()),

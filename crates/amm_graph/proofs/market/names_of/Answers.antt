@@ -4,7 +4,7 @@ use Rattle.std.specs.List.{IsDistinct}
 use Rattle.std.specs.Map.{keys_of}
 use Rattle.std.proofs.lemmas.Map.Entries.{length-keys_of}
 use Rattle.amm_model.specs.Pools.{same_name}
-use Rattle.amm_model.specs.Routing.{Name}
+use Rattle.amm_names.specs.Names.{Name}
 use Rattle.amm_graph.proofs.Markets.{gathered, same_names, sorted_names}
 use Rattle.amm_graph.proofs.market.names_of.Goals as goal
 

@@ -1,7 +1,7 @@
 use Rattle.std.proofs.Common.{◌≢◌, ◌<◌, ◌≤◌, ◌^◌, arith, subst}
 use Rattle.std.specs.Prelude.{MatchOption, Option}
 use Rattle.amm_model.specs.declared.problem.Part.{Part}
-use Rattle.amm_model.specs.Routing.{AreParts, IsBefore, IsProblemOf, ProblemView, one_part, opened}
+use Rattle.amm_model.specs.Routing.{AreParts, IsBefore, IsProblemOf, ProblemView, one_part, open_view}
 use Rattle.amm_graph.proofs.Lists.{All1, AllPairs-one}
 use Rattle.amm_graph.proofs.Markets.{market_of, parts_fit, some_made}
 use Rattle.amm_graph.proofs.market.problem.Goals as goal
@@ -22,4 +22,4 @@ returns c =
     let pools = c.in_ok-pools.ensures in
     let of = subst (λ (o : Option ProblemView). MatchOption o (AreParts c.args.s.now c.args.t.now c.args.d c.in_ok-pools.pools.items → ⊥)
     (λ problem. IsProblemOf c.args.s.now c.args.t.now c.args.d c.in_ok-pools.pools.items problem)) c.unwrap.ensures c.in_ok-from_parts.ensures in
-    market_of c.args.state.now (one_part c.args.s.now c.args.d) c.args.t.now c.in_ok-pools.pools.items (opened c.unwrap.result) pools.pools of
+    market_of c.args.state.now (one_part c.args.s.now c.args.d) c.args.t.now c.in_ok-pools.pools.items (open_view c.unwrap.result) pools.pools of

@@ -1,6 +1,7 @@
 use Rattle.std.proofs.Common.{◌≡◌, ◌∙◌}
 use Rattle.amm_names.specs.declared.holder.Holder.TheVariants as holders
-use Rattle.amm_model.specs.Ledger.{Ledger, Made}
+use Rattle.amm_model.specs.Ledger.{Ledger}
+use Rattle.amm_model.specs.Outcome.{Made}
 use Rattle.amm_model.specs.Sound.{IsSound}
 use Rattle.amm_model.proofs.PlainSound.{list_listed, list_sound, list_plain, issue_sound, issue_plain}
 use Rattle.amm_state.proofs.Meets.{on_ok}

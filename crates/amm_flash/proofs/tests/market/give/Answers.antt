@@ -1,5 +1,5 @@
 use Rattle.amm_names.specs.declared.holder.Holder.TheVariants as holders
-use Rattle.amm_model.specs.Ledger.{Made}
+use Rattle.amm_model.specs.Outcome.{Made}
 use Rattle.amm_model.specs.Sound.{IsAtRest}
 use Rattle.amm_model.proofs.PlainSound.{list_listed, list_rest, issue_rest}
 use Rattle.amm_state.proofs.Meets.{on_ok}

@@ -1,9 +1,8 @@
 use Rattle.std.proofs.Common.{arith, [], ◌<◌, length, get_or, take, refl, ap}
 use Rattle.std.proofs.lemmas.Bool.{leb-true, le-leb}
 use Rattle.std.proofs.lemmas.List.{get_or_read_under}
-use Rattle.amm_model.specs.Routing.{no_pool}
+use Rattle.amm_model.specs.Routing.{no_pool, amount_given}
 use Rattle.amm_model.specs.Legs.{after_legs, used_after, no_leg}
-use Rattle.amm_model.specs.Routing.{given}
 use Rattle.amm_legs.proofs.Legs.{leg_of}
 use Rattle.amm_legs.proofs.Steps.{held_at, side_places}
 use Rattle.amm_legs.proofs.progress.Progress.admits.Goals as goal
@@ -14,7 +13,7 @@ returns c =
     let pools = problem.pools in
     let leg = get_or c.args.legs.now c.args.i no_leg in
     let used = used_after [] (take c.args.i c.args.legs.now) in
-    let held = after_legs pools (given problem) (take c.args.i c.args.legs.now) in
+    let held = after_legs pools (amount_given problem) (take c.args.i c.args.legs.now) in
     let there : leg.pool < length pools = omega (arith, ap length c.pools-pools.ensures.list) in
     let is = rw c.pools-pools.ensures.list at c.index-pools-place.is in
     let pool-is = get_or_read_under pools leg.pool (length pools) c.index-pools-place.result no_pool is there refl in

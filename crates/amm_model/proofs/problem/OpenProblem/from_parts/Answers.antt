@@ -2,7 +2,8 @@ use Rattle.std.proofs.Common.{refl, subst, List}
 use Rattle.std.specs.Prelude.{Contains, ◌↔◌}
 use Rattle.amm_model.specs.declared.problem.Part.{Part}
 use Rattle.amm_model.specs.declared.problem.ProblemPool.{ProblemPool}
-use Rattle.amm_model.specs.Routing.{AreOpenParts, AreSpelled, Name, tokens_named}
+use Rattle.amm_model.specs.Routing.{AreOpenParts, AreSpelled, tokens_named}
+use Rattle.amm_names.specs.Names.{Name}
 use Rattle.amm_model.proofs.problem.OpenProblem.from_parts.Goals as goal
 
 pub invariant_of-result : goal.invariant_of-result

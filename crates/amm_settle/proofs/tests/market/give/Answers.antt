@@ -1,4 +1,4 @@
-use Rattle.amm_model.specs.Ledger.{Made}
+use Rattle.amm_model.specs.Outcome.{Made}
 use Rattle.amm_model.specs.Sound.{IsAtRest}
 use Rattle.amm_model.proofs.PlainSound.{list_listed, list_rest, issue_rest}
 use Rattle.amm_state.proofs.Meets.{on_ok}

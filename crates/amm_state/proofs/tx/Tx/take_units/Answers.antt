@@ -1,20 +1,20 @@
 use Rattle.std.proofs.Common.{ℕ, ◌-◌, ◌∷◌, List, sym, ap, subst, ◌∙◌}
-use Rattle.amm_model.specs.Ledger.{set_balance, taken}
+use Rattle.amm_model.specs.Ledger.{set_balance, with_less}
 use Rattle.amm_state.specs.declared.journal.Undo.{Undo}
 use Rattle.amm_state.specs.declared.journal.Undo.TheVariants.{Balance}
 use Rattle.amm_state.specs.Book.{BookView}
 use Rattle.amm_state.specs.Journal.{IsCanonical, IsRevertible, undo_all}
-use Rattle.amm_state.specs.Tx.{Progress}
+use Rattle.amm_state.specs.Tx.{TxView}
 use Rattle.amm_state.proofs.Canonical.{taken-nothing}
 use Rattle.amm_state.proofs.JournalLemmas.{balance_changed, balance_leads_back}
 use Rattle.amm_state.proofs.tx.Tx.take_units.Goals as goal
 
 pub returns-then-n-eq0-clause-ok : goal.returns-then-n-eq0-clause-ok
 returns-then-n-eq0-clause-ok c =
-    let canonical = subst (λ (t : Progress). IsCanonical t.present) c.self.view_is c.self.invariant.canonical in
-    let opening = ap (λ (changes : List Undo). undo_all changes c.self.inside.book.value.ledger) c.reserve.ensures.same ∙ ap (λ (t : Progress). t.opening) c.self.view_is in
-    let present = ap (λ (t : Progress). t.present) c.self.view_is ∙ sym (taken-nothing c.args.self.now.present c.args.asset.now c.args.from.now canonical) ∙ ap (taken c.args.self.now.present c.args.asset.now c.args.from.now) (sym c.if-n-eq0.true) in
-    let mark = ap (λ (t : Progress). t.mark) c.self.view_is in
+    let canonical = subst (λ (t : TxView). IsCanonical t.present) c.self.view_is c.self.invariant.canonical in
+    let opening = ap (λ (changes : List Undo). undo_all changes c.self.inside.book.value.ledger) c.reserve.ensures.same ∙ ap (λ (t : TxView). t.opening) c.self.view_is in
+    let present = ap (λ (t : TxView). t.present) c.self.view_is ∙ sym (taken-nothing c.args.self.now.present c.args.asset.now c.args.from.now canonical) ∙ ap (with_less c.args.self.now.present c.args.asset.now c.args.from.now) (sym c.if-n-eq0.true) in
+    let mark = ap (λ (t : TxView). t.mark) c.self.view_is in
     λ i. record { opening = opening i; present = present i; mark = mark i }
 
 pub invariant_of-self-2 : goal.invariant_of-self-2
@@ -30,9 +30,9 @@ returns-clause-ok c =
     let noted = c.note.ensures.noted ∙ ap (λ (changes : List Undo). Balance c.args.asset.now c.args.from.now c.in_ok-before.before ∷ changes) c.reserve.ensures.same in
     let opening = balance_leads_back c.self.inside.journal.changes _ c.deref_mut.result.now _ c.args.asset.now c.args.from.now (c.in_ok-before.before - c.args.n) c.in_ok-before.before noted e.before e.ok (subst (IsRevertible c.self.inside.journal.changes) (sym c.deref_mut.ensures.value) c.self.invariant)
     ∙ ap (λ (b : BookView). undo_all c.self.inside.journal.changes b.ledger) c.deref_mut.ensures.value
-    ∙ ap (λ (t : Progress). t.opening) c.self.view_is in
+    ∙ ap (λ (t : TxView). t.opening) c.self.view_is in
     let present = ap (λ (b : BookView). b.ledger) e.ok ∙ ap (λ (k : ℕ). set_balance c.deref_mut.result.now.ledger c.args.asset.now c.args.from.now (k - c.args.n)) e.before
-    ∙ ap (λ (b : BookView). taken b.ledger c.args.asset.now c.args.from.now c.args.n) c.deref_mut.ensures.value
-    ∙ ap (λ (t : Progress). taken t.present c.args.asset.now c.args.from.now c.args.n) c.self.view_is in
-    let mark = ap (λ (t : Progress). t.mark) c.self.view_is in
+    ∙ ap (λ (b : BookView). with_less b.ledger c.args.asset.now c.args.from.now c.args.n) c.deref_mut.ensures.value
+    ∙ ap (λ (t : TxView). with_less t.present c.args.asset.now c.args.from.now c.args.n) c.self.view_is in
+    let mark = ap (λ (t : TxView). t.mark) c.self.view_is in
     λ i. record { opening = opening i; present = present i; mark = mark i }

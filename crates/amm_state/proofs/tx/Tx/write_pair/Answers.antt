@@ -4,7 +4,7 @@ use Rattle.amm_state.specs.declared.journal.Undo.{Undo}
 use Rattle.amm_state.specs.declared.journal.Undo.TheVariants.{Pair}
 use Rattle.amm_state.specs.Book.{BookView}
 use Rattle.amm_state.specs.Journal.{IsRevertible, undo_all}
-use Rattle.amm_state.specs.Tx.{Progress}
+use Rattle.amm_state.specs.Tx.{TxView}
 use Rattle.amm_state.proofs.JournalLemmas.{pair_changed, pair_leads_back}
 use Rattle.amm_state.proofs.tx.Tx.write_pair.Goals as goal
 
@@ -20,9 +20,9 @@ returns-clause-ok c =
     let noted = c.note.ensures.noted ∙ ap (λ (changes : List Undo). Pair c.args.pool.now c.unwrap-before.result ∷ changes) c.reserve.ensures.same in
     let opening = pair_leads_back c.self.inside.journal.changes _ c.deref_mut.result.now _ c.args.pool.now c.unwrap-before.result c.args.new noted was c.replace_pair.ensures.written
     ∙ ap (λ (b : BookView). undo_all c.self.inside.journal.changes b.ledger) c.deref_mut.ensures.value
-    ∙ ap (λ (t : Progress). t.opening) c.self.view_is in
+    ∙ ap (λ (t : TxView). t.opening) c.self.view_is in
     let present = ap (λ (b : BookView). b.ledger) c.replace_pair.ensures.written
     ∙ ap (λ (b : BookView). record b.ledger { pairs = set_pair b.ledger.pairs c.args.pool.now c.args.new }) c.deref_mut.ensures.value
-    ∙ ap (λ (t : Progress). record t.present { pairs = set_pair t.present.pairs c.args.pool.now c.args.new }) c.self.view_is in
-    let mark = ap (λ (t : Progress). t.mark) c.self.view_is in
+    ∙ ap (λ (t : TxView). record t.present { pairs = set_pair t.present.pairs c.args.pool.now c.args.new }) c.self.view_is in
+    let mark = ap (λ (t : TxView). t.mark) c.self.view_is in
     λ i. record { opening = opening i; present = present i; mark = mark i }
