@@ -117,6 +117,7 @@ module _ (old : Ledger) (pool : List ℕ) (sound : IsSound old) (absent : pair_o
     count = omega (arith, length-append old.pairs ((pool, zero_pair) ∷ []));
     time = sound.time;
     quotes = sound.quotes;
+    answers = sound.answers;
     observations = sound.observations;
   }
 

@@ -1,6 +1,6 @@
 -- Soundness and rest are kept by the operations that leave every pair as it is.
 use Rattle.std.proofs.Common.{◌≡◌, ◌≢◌, ◌≤◌, ◌<◌, ◌+◌, ◌++◌, ◌∷◌, [], ℕ, nat_lt, nat_le, true, false, ◌||◌, List, length, Ok, Err, IsSome, inl, inr, refl, sym, ap, ◌∙◌, subst, arith, length-append}
-use Rattle.std.specs.Prelude.{if◌then◌else◌}
+use Rattle.std.specs.Prelude.{All, if◌then◌else◌}
 use Rattle.std.specs.Map.{keys_of}
 use Rattle.std.specs.List.{IsDistinct}
 use Rattle.std.proofs.lemmas.List.Folds.{list_any-append}
@@ -12,12 +12,14 @@ use Rattle.amm_names.specs.declared.holder.Asset.{Asset}
 use Rattle.amm_names.specs.declared.holder.Asset.TheVariants as assets
 use Rattle.amm_names.specs.Pools.{pool_token0, pool_token1}
 use Rattle.amm_model.specs.declared.pair.PairRecord.{PairRecord}
+use Rattle.amm_model.specs.declared.route.Quote.{Quote}
 use Rattle.amm_model.specs.declared.fault.Refusal.TheVariants as code
 use Rattle.amm_model.specs.Ledger.{Ledger, HoldingsByAsset, Pairs, holdings_of, sum_held, balance, total, is_listed, pair_of, with_more}
 use Rattle.amm_model.specs.Outcome.{Made, ledger_only}
 use Rattle.amm_model.specs.Postings.{list_token, issue, retire, transfer, set_time}
 use Rattle.amm_model.specs.declared.limits.TheConstants.{AMOUNT_LIMIT, TOKEN_LIMIT, QUOTE_LIMIT, OBSERVATION_LIMIT}
 use Rattle.amm_model.specs.Pools.{same_name, asset0, asset1}
+use Rattle.amm_model.specs.SplitAnswers.{IsSplitAnswer}
 use Rattle.amm_model.specs.Formulas.{IsBacked}
 use Rattle.amm_model.specs.Sound.{IsSoundPair, IsKnown, IsSound, IsAtRest}
 use Rattle.amm_model.specs.Laws.{ZeroKept, TokenTotalsKept, Deposited, Withdrawn}
@@ -42,6 +44,7 @@ pub record Counted (ledger : Ledger) : Type 0 where
   pub tokens : length ledger.tokens ≤ TOKEN_LIMIT
   pub time : ledger.time ≤ AMOUNT_LIMIT
   pub quotes : length ledger.quotes ≤ QUOTE_LIMIT
+  pub answers : All IsSplitAnswer ledger.quotes
   pub observations : length ledger.observations ≤ OBSERVATION_LIMIT
 
 pub plain_known : (old new : Ledger) → Plain old new → (asset : Asset) → IsKnown old asset → IsKnown new asset
@@ -58,6 +61,7 @@ plain_sound old new sound plain counted = record {
   count = omega (arith, ap length plain.pairs, sound.count);
   time = counted.time;
   quotes = counted.quotes;
+  answers = counted.answers;
   observations = counted.observations;
 } where
   same_pair : (pool : List ℕ) (pair : PairRecord) → IsSoundPair old pool pair → IsSoundPair new pool pair
@@ -88,6 +92,7 @@ rest_counted old new sound rest totals known = record {
   tokens = omega (arith, ap length rest.tokens, sound.tokens);
   time = omega (arith, rest.time, sound.time);
   quotes = omega (arith, ap length rest.quotes, sound.quotes);
+  answers = subst (λ (qs : List Quote). All IsSplitAnswer qs) (sym rest.quotes) sound.answers;
   observations = omega (arith, ap length rest.observations, sound.observations);
 }
 
@@ -224,6 +229,7 @@ module _ (old : Ledger) (fee_to : Holder) (setter : List ℕ) (time : ℕ) where
     tokens = sound.tokens;
     time = limit;
     quotes = sound.quotes;
+    answers = sound.answers;
     observations = sound.observations;
   }
 
@@ -276,6 +282,7 @@ one_more_listed old token room = record {
     tokens = omega (arith, length-append old.tokens (token ∷ []));
     time = sound.time;
     quotes = sound.quotes;
+    answers = sound.answers;
     observations = sound.observations;
   };
   here = listed_last old.tokens token;
@@ -285,7 +292,7 @@ listed_already : (old : Ledger) (token : List ℕ) → is_listed old.tokens toke
 listed_already old token is = record {
   holdings = refl;
   plain = record { pairs = refl; listed = λ name there. there; held = λ q pool. omega arith; zero = λ q. omega arith; shares = λ pool. refl };
-  counted = λ sound. record { totals = sound.totals; known = sound.known; tokens = sound.tokens; time = sound.time; quotes = sound.quotes; observations = sound.observations };
+  counted = λ sound. record { totals = sound.totals; known = sound.known; tokens = sound.tokens; time = sound.time; quotes = sound.quotes; answers = sound.answers; observations = sound.observations };
   here = is;
 }
 

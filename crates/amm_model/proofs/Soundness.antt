@@ -1,5 +1,6 @@
 -- Soundness is kept where all but one pool keep what they are and have.
 use Rattle.std.proofs.Common.{◌≡◌, ◌≢◌, ◌≤◌, ℕ, true, List, length, Option, Some, IsSome, inl, inr, refl, sym, ap, ◌∙◌, subst, arith}
+use Rattle.std.specs.Prelude.{All}
 use Rattle.std.specs.Map.{keys_of}
 use Rattle.std.proofs.lemmas.Map.{keys-set_value, length-set_value}
 use Rattle.std.specs.List.{IsDistinct}
@@ -15,6 +16,7 @@ use Rattle.amm_model.specs.Ledger.{Ledger, Pairs, balance, total, is_listed, pai
 use Rattle.amm_model.specs.declared.limits.TheConstants.{AMOUNT_LIMIT, TOKEN_LIMIT, QUOTE_LIMIT, OBSERVATION_LIMIT}
 use Rattle.amm_model.specs.Pools.{supply, same_name, asset0, asset1}
 use Rattle.amm_model.specs.Sound.{IsSoundPair, IsKnown, IsSound}
+use Rattle.amm_model.specs.SplitAnswers.{IsSplitAnswer}
 use Rattle.amm_model.specs.Formulas.{IsBacked}
 use Rattle.amm_model.proofs.Names.{name_cases, asset_cases, pair_of-set_other, some_there, one_value}
 use Rattle.amm_model.proofs.Balances.{Rest, rest_same, Taken, taken_kept}
@@ -133,6 +135,7 @@ sound_but_at pool old new now sound only there limit this = record {
   count = omega (arith, only.count, sound.count);
   time = omega (arith, only.time, sound.time);
   quotes = subst (λ (qs : List Quote). length qs ≤ QUOTE_LIMIT) (sym only.quotes) sound.quotes;
+  answers = subst (λ (qs : List Quote). All IsSplitAnswer qs) (sym only.quotes) sound.answers;
   observations = subst (λ (os : List Observation). length os ≤ OBSERVATION_LIMIT) (sym only.observations) sound.observations;
 } where
   here : (pair : PairRecord) → pair_of new.pairs pool ≡ Some pair → IsSoundPair new pool pair

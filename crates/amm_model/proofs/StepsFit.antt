@@ -1,18 +1,16 @@
 -- A step that was read fits: its numbers are within their limits, and its names are names.
-use Rattle.std.proofs.Common.{◌≡◌, ◌∷◌, ℕ, zero, suc, nat_le, Bool, true, false, List, [], Result, Ok, Err, subst}
-use Rattle.std.specs.Prelude.{if◌then◌else◌, ok_or}
+use Rattle.std.proofs.Common.{◌≡◌, ◌∷◌, ℕ, zero, suc, Bool, true, false, List, [], Result, Ok, Err, subst}
+use Rattle.std.specs.Prelude.{if◌then◌else◌}
 use Rattle.serde_json.specs.Data.{Data}
 use Rattle.amm_model.specs.declared.fault.Refusal.{Refusal}
-use Rattle.amm_model.specs.declared.fault.Refusal.TheVariants.{BadJson, BadCommand}
-use Rattle.amm_model.specs.Json.{json_value, each}
-use Rattle.amm_model.specs.Forms.{as_text, as_list, as_user, as_token, as_pool, as_asset, as_holder, as_path, as_amount, fee_behind}
-use Rattle.amm_model.specs.CommandView as view
-use Rattle.amm_model.specs.CommandView.{CommandView, Move, Moves, moves_of}
-use Rattle.amm_model.specs.Reading.{deposit_row, withdraw_row, time_row, fee_to_row, setter_row, quote_out_row, quote_in_row, split_row, certificate_row, pool_row, balance_row, total_row, act_row, row_of, transfer_row, create_row, mint_row, burn_row, swap_row, skim_row, sync_row, flash_row, add_row, remove_row, swap_in_row, swap_out_row, settle_row, ReadSteps, move_row, step_row, as_step, as_steps, steps_inside, command_of_list, command_of, command_of_line}
-use Rattle.amm_model.specs.declared.limits.TheConstants.{LOAN_LIMIT, STEP_LIMIT}
-use Rattle.amm_model.specs.Fits.{FitsMove, FitMoves, HasNames, HaveNames, Fits}
+use Rattle.amm_model.specs.declared.fault.Refusal.TheVariants.{BadCommand}
+use Rattle.amm_model.specs.Json.{each}
+use Rattle.amm_model.specs.Forms.{as_text, as_list, as_token, as_pool, as_asset, as_holder, as_path, as_amount, fee_behind}
+use Rattle.amm_model.specs.CommandView.{Move, Moves, moves_of}
+use Rattle.amm_model.specs.Reading.{transfer_row, create_row, mint_row, burn_row, swap_row, skim_row, sync_row, flash_row, add_row, remove_row, swap_in_row, swap_out_row, settle_row, ReadSteps, move_row, step_row, as_step, as_steps}
+use Rattle.amm_model.specs.Fits.{FitsMove, FitMoves, HasNames, HaveNames}
 use Rattle.amm_model.proofs.Guards.{given, same_answer}
-use Rattle.amm_model.proofs.FormsFit.{passed, token_named, pool_named, amount_small, fee_behind_fits, path_fits}
+use Rattle.amm_model.proofs.FormsFit.{token_named, pool_named, amount_small, fee_behind_fits, path_fits}
 
 -- a step that was read, and a list of them
 abbrev pub IsReadMove : Move → Type 0

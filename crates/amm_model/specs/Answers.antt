@@ -1,20 +1,21 @@
--- What a line may be answered in a ledger, and the ledger that it leaves.
-use Rattle.std.specs.Prelude.{◌≡◌, ℕ, List, Ok, Err}
+-- What a line may come to in a ledger, and what then is answered and left.
+use Rattle.std.specs.Prelude.{◌≡◌, Ok, Err, MatchResult}
 use Rattle.amm_model.specs.declared.fault.Refusal.TheVariants.{LongLine}
 use Rattle.amm_model.specs.declared.line.Line.{Line}
 use Rattle.amm_model.specs.declared.line.Line.TheVariants.{Blank, Whole, Long}
 use Rattle.amm_model.specs.declared.reply.Answer.{Answer}
 use Rattle.amm_model.specs.declared.reply.Answer.TheVariants.{Refused}
-use Rattle.amm_model.specs.Outcome.{◌>>=◌, Outcome}
+use Rattle.amm_model.specs.Outcome.{Outcome}
 use Rattle.amm_model.specs.Ledger.{Ledger}
 use Rattle.amm_model.specs.Reading.{command_of_line}
-use Rattle.amm_model.specs.Meaning.{outcome_of}
+use Rattle.amm_model.specs.Meaning.{MayComeTo}
 
--- what the command that the bytes are does, or why they are none or it is refused
-unfoldable pub outcome_of_line : Ledger → List ℕ → Outcome Answer
-outcome_of_line ledger bytes = do
-  command ← command_of_line bytes
-  outcome_of ledger command
+-- A line comes to what its command may come to, or to the code that says why it is none. A blank
+-- line comes to nothing.
+unfoldable pub ComesTo : Ledger → Line → Outcome Answer → Type 0
+ComesTo ledger Blank outcome = ⊥
+ComesTo ledger Long outcome = outcome ≡ Err LongLine
+ComesTo ledger (Whole bytes) outcome = MatchResult (command_of_line bytes) (λ asked. MayComeTo ledger asked outcome) (λ why. outcome ≡ Err why)
 
 -- the answer that tells an outcome
 abbrev pub answer_of : Outcome Answer → Answer
@@ -25,15 +26,3 @@ answer_of (Err why) = Refused why
 abbrev pub ledger_after : Ledger → Outcome Answer → Ledger
 ledger_after old (Ok made) = made.ledger
 ledger_after old (Err why) = old
-
--- A line may be answered so. A blank line is not answered.
-unfoldable pub Answers : Ledger → Line → Answer → Type 0
-Answers ledger Blank answer = ⊥
-Answers ledger Long answer = answer ≡ Refused LongLine
-Answers ledger (Whole bytes) answer = answer ≡ answer_of (outcome_of_line ledger bytes)
-
--- The ledger that a line leaves where it is answered so.
-unfoldable pub After : Ledger → Line → Answer → Ledger
-After ledger line (Refused why) = ledger
-After ledger (Whole bytes) answer = ledger_after ledger (outcome_of_line ledger bytes)
-After ledger line answer = ledger

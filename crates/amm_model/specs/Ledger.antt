@@ -1,5 +1,5 @@
 -- The ledger: who holds how much of what, the listed tokens, and the pairs.
-use Rattle.std.specs.Prelude.{ℕ, ◌+◌, ◌-◌, ◌==◌, nat_eq, Bool, List, [], codes, sum_by, Option, if◌then◌else◌, false}
+use Rattle.std.specs.Prelude.{ℕ, zero, suc, ◌+◌, ◌-◌, ◌==◌, nat_eq, Bool, List, [], ◌∷◌, ◌++◌, codes, sum_by, Option, None, slice_get, if◌then◌else◌, false}
 use Rattle.std.specs.Option.{unwrap_or}
 use Rattle.std.specs.List.{list_any}
 use Rattle.std.specs.Map.{lookup, set_value}
@@ -106,6 +106,15 @@ with_transfer ledger asset from to n = with_more (with_less ledger asset from n)
 -- the ledger with another receiver of the protocol's fee
 abbrev pub with_fee_to : Ledger → Holder → Ledger
 with_fee_to ledger to = record ledger { fee_to = to }
+
+-- the quote with this number: they are counted from 1 in the order in which they were made
+abbrev pub quote_of : List Quote → ℕ → Option Quote
+quote_of quotes zero = None
+quote_of quotes (suc before) = slice_get quotes before
+
+-- the ledger with one more quote, the last
+abbrev pub with_quote : Ledger → Quote → Ledger
+with_quote ledger quote = record ledger { quotes = ledger.quotes ++ quote ∷ [] }
 
 -- the ledger with another user who may set that receiver
 abbrev pub with_setter : Ledger → Name → Ledger

@@ -33,6 +33,7 @@ pub mod Settled
 pub mod Market
 pub mod Spreads
 pub mod SplitAnswers
+pub mod Splits
 pub mod Settlement
 pub mod Baskets
 pub mod Cycles

@@ -1,5 +1,5 @@
 -- What each command and step does to the ledger, and what it answers.
-use Rattle.std.specs.Prelude.{ℕ, not, Result, Ok, Err, ok_or}
+use Rattle.std.specs.Prelude.{ℕ, ◌≡◌, not, Result, Ok, ok_or}
 use Rattle.std.specs.Option.{is_none}
 use Rattle.amm_names.specs.Names.{Name}
 use Rattle.amm_names.specs.declared.holder.Holder.{Holder}
@@ -12,12 +12,14 @@ use Rattle.amm_model.specs.declared.fault.Refusal.TheVariants as code
 use Rattle.amm_model.specs.declared.reply.Answer.{Answer}
 use Rattle.amm_model.specs.declared.reply.Answer.TheVariants as answers
 use Rattle.amm_model.specs.Outcome.{◌>>=◌, refuse_if, Outcome, ledger_only}
-use Rattle.amm_model.specs.Ledger.{Ledger, balance, total, is_listed, pair_of}
+use Rattle.amm_model.specs.Ledger.{Ledger, balance, total, is_listed, pair_of, quote_of}
 use Rattle.amm_model.specs.Postings.{list_token, issue, retire, transfer, set_time}
 use Rattle.amm_model.specs.Pools.{held0, held1, supply}
 use Rattle.amm_model.specs.Operations.{mint, burn, swap, skim, sync, lend, give_back}
 use Rattle.amm_model.specs.Factory.{create, set_fee_to, set_setter}
 use Rattle.amm_model.specs.Router.{add, remove, exact_in, exact_out, amounts_out, amounts_in}
+use Rattle.amm_model.specs.Settlement.{settle}
+use Rattle.amm_model.specs.Splits.{SplitsTo}
 use Rattle.amm_model.specs.CommandView as view
 use Rattle.amm_model.specs.CommandView.{CommandView, Move, Moves}
 
@@ -56,7 +58,7 @@ sync_reply pair = answers.Sync pair.r0 pair.r1
 
 unfoldable mutual
   -- What a step of the actor does. A loan is lent to the actor, whose steps run, and is then given
-  -- back (core, UniswapV2Pair.swap with data). A kind that is not answered yet is refused.
+  -- back (core, UniswapV2Pair.swap with data).
   pub meaning : Ledger → (actor : Name) → Move → Outcome Answer
   meaning ledger actor (view.transfer asset to n) = send ledger actor asset to n
   meaning ledger actor (view.create a b fee) = as_answer answers.Create (create ledger a b fee)
@@ -73,7 +75,9 @@ unfoldable mutual
   meaning ledger actor (view.remove want to deadline) = as_answer answers.Remove (remove ledger actor want to deadline)
   meaning ledger actor (view.swap_in path x least to deadline) = as_answer answers.SwapIn (exact_in ledger actor path x least to deadline)
   meaning ledger actor (view.swap_out path y most to deadline) = as_answer answers.SwapOut (exact_out ledger actor path y most to deadline)
-  meaning ledger actor (view.settle quote deadline) = Err code.BadCommand
+  meaning ledger actor (view.settle number deadline) = do
+    quote ← ok_or (quote_of ledger.quotes number) code.NoQuote
+    as_answer answers.Settle (settle ledger actor quote deadline)
 
   -- what a list of steps does, one after another; the first code ends it
   pub meaning_of_all : Ledger → (actor : Name) → Moves → Outcome (Unit {0})
@@ -98,27 +102,29 @@ withdraw ledger user token n = do
   retired ← retire ledger (assets.Token token) (holders.User user) n
   ledger_with retired.ledger (answers.Withdraw (balance retired.ledger (assets.Token token) (holders.User user)) (total retired.ledger (assets.Token token)))
 
--- what a command does; a kind that is not answered yet is refused
-unfoldable pub outcome_of : Ledger → CommandView → Outcome Answer
-outcome_of ledger (view.deposit user token n) = deposit ledger user token n
-outcome_of ledger (view.withdraw user token n) = withdraw ledger user token n
-outcome_of ledger (view.time n) = outcome_with answers.Time (set_time ledger n)
-outcome_of ledger (view.fee_to actor to) = outcome_with answers.FeeTo (set_fee_to ledger actor to)
-outcome_of ledger (view.setter actor to) = outcome_with answers.Setter (set_setter ledger actor to)
-outcome_of ledger (view.quote_out path n) = do
-  amounts ← amounts_out ledger path n
-  ledger_with ledger (answers.QuoteOut amounts)
-outcome_of ledger (view.quote_in path n) = do
-  amounts ← amounts_in ledger path n
-  ledger_with ledger (answers.QuoteIn amounts)
-outcome_of ledger (view.pool pool) = do
-  pair ← ok_or (pair_of ledger.pairs pool) code.NoPair
-  ledger_with ledger (answers.Pool pair (held0 ledger pool) (held1 ledger pool) (supply ledger pool))
-outcome_of ledger (view.balance asset holder) = do
-  _ ← known_asset ledger asset
-  ledger_with ledger (answers.Balance (balance ledger asset holder))
-outcome_of ledger (view.total asset) = do
-  _ ← known_asset ledger asset
-  ledger_with ledger (answers.Total (total ledger asset))
-outcome_of ledger (view.act actor step) = meaning ledger actor step
-outcome_of ledger _ = Err code.BadCommand
+-- what a query finds, as an answer; it changes nothing
+abbrev pub query : {A : Type 0} → Ledger → (A → Answer) → Result A Refusal → Outcome Answer
+query ledger view found = do
+  x ← found
+  ledger_with ledger (view x)
+
+-- the record of a pair, what its pool holds of the two tokens, and its shares
+abbrev pub pool_answer : Ledger → (pool : Name) → PairRecord → Answer
+pool_answer ledger pool pair = answers.Pool pair (held0 ledger pool) (held1 ledger pool) (supply ledger pool)
+
+-- What a command may come to: a split to any quote that answers its problem, each other command to
+-- one outcome.
+unfoldable pub MayComeTo : Ledger → CommandView → Outcome Answer → Type 0
+MayComeTo ledger (view.deposit user token n) outcome = deposit ledger user token n ≡ outcome
+MayComeTo ledger (view.withdraw user token n) outcome = withdraw ledger user token n ≡ outcome
+MayComeTo ledger (view.time n) outcome = outcome_with answers.Time (set_time ledger n) ≡ outcome
+MayComeTo ledger (view.fee_to actor to) outcome = outcome_with answers.FeeTo (set_fee_to ledger actor to) ≡ outcome
+MayComeTo ledger (view.setter actor to) outcome = outcome_with answers.Setter (set_setter ledger actor to) ≡ outcome
+MayComeTo ledger (view.quote_out path n) outcome = query ledger answers.QuoteOut (amounts_out ledger path n) ≡ outcome
+MayComeTo ledger (view.quote_in path n) outcome = query ledger answers.QuoteIn (amounts_in ledger path n) ≡ outcome
+MayComeTo ledger (view.split s t d) outcome = SplitsTo ledger s t d outcome
+MayComeTo ledger (view.certificate number) outcome = query ledger answers.Certificate (ok_or (quote_of ledger.quotes number) code.NoQuote) ≡ outcome
+MayComeTo ledger (view.pool pool) outcome = query ledger (pool_answer ledger pool) (ok_or (pair_of ledger.pairs pool) code.NoPair) ≡ outcome
+MayComeTo ledger (view.balance asset holder) outcome = query ledger (λ _. answers.Balance (balance ledger asset holder)) (known_asset ledger asset) ≡ outcome
+MayComeTo ledger (view.total asset) outcome = query ledger (λ _. answers.Total (total ledger asset)) (known_asset ledger asset) ≡ outcome
+MayComeTo ledger (view.act actor step) outcome = meaning ledger actor step ≡ outcome

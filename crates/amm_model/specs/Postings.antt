@@ -1,12 +1,13 @@
--- How units, listed tokens, pairs and the time change, and when a change is refused.
-use Rattle.std.specs.Prelude.{ℕ, ◌+◌, nat_lt, nat_le, [], ◌∷◌, ◌++◌, length, if◌then◌else◌, Err}
+-- How units, listed tokens, pairs, quotes and the time change, and when a change is refused.
+use Rattle.std.specs.Prelude.{ℕ, ◌+◌, nat_lt, nat_le, [], ◌∷◌, ◌++◌, length, if◌then◌else◌, Ok, Err}
 use Rattle.amm_names.specs.Names.{Name}
 use Rattle.amm_names.specs.declared.holder.Holder.{Holder}
 use Rattle.amm_names.specs.declared.holder.Asset.{Asset}
 use Rattle.amm_names.specs.Order.{same_holder}
-use Rattle.amm_model.specs.declared.limits.TheConstants.{AMOUNT_LIMIT, TOKEN_LIMIT, PAIR_LIMIT}
-use Rattle.amm_model.specs.declared.fault.Refusal.TheVariants.{Funds, TotalLimit, TokenLimit, PairLimit, TimeBack}
-use Rattle.amm_model.specs.Ledger.{Ledger, balance, total, with_more, with_less, with_transfer, is_listed, zero_pair}
+use Rattle.amm_model.specs.declared.limits.TheConstants.{AMOUNT_LIMIT, TOKEN_LIMIT, PAIR_LIMIT, QUOTE_LIMIT}
+use Rattle.amm_model.specs.declared.fault.Refusal.TheVariants.{Funds, TotalLimit, TokenLimit, PairLimit, QuoteLimit, TimeBack}
+use Rattle.amm_model.specs.declared.route.Quote.{Quote}
+use Rattle.amm_model.specs.Ledger.{Ledger, balance, total, with_more, with_less, with_transfer, with_quote, is_listed, zero_pair}
 use Rattle.amm_model.specs.Outcome.{Outcome, ledger_only}
 
 -- n units go from one holder to another, if he has them
@@ -40,6 +41,12 @@ abbrev pub add_pair : Ledger → Name → Outcome (Unit {0})
 add_pair ledger pool =
     if nat_le PAIR_LIMIT (length ledger.pairs) then Err PairLimit
     else ledger_only (record ledger { pairs = ledger.pairs ++ (pool, zero_pair) ∷ [] })
+
+-- a quote is kept, and its number told, unless there are too many
+abbrev pub add_quote : Ledger → Quote → Outcome ℕ
+add_quote ledger quote =
+    if nat_le QUOTE_LIMIT (length ledger.quotes) then Err QuoteLimit
+    else Ok (record { ledger = with_quote ledger quote; answer = length ledger.quotes + 1 })
 
 -- time does not go back
 abbrev pub set_time : Ledger → ℕ → Outcome (Unit {0})

@@ -1,5 +1,5 @@
 -- Runs of the ledger over numbered lines, and their output.
-use Rattle.std.specs.Prelude.{◌≡◌, ◌+◌, ◌++◌, ℕ, List, [], ◌∷◌, MatchResult}
+use Rattle.std.specs.Prelude.{◌≡◌, ◌≤◌, ◌+◌, ◌++◌, ℕ, List, [], ◌∷◌, Some, MatchResult}
 use Rattle.std.specs.List.{flat_map}
 use Rattle.amm_model.specs.declared.fault.Refusal.{Refusal}
 use Rattle.amm_model.specs.declared.line.Line.{Line}
@@ -7,12 +7,18 @@ use Rattle.amm_model.specs.declared.line.Line.TheVariants.{Blank, Whole}
 use Rattle.amm_model.specs.declared.reply.Answer.{Answer}
 use Rattle.amm_model.specs.declared.reply.Answer.TheVariants as answers
 use Rattle.amm_model.specs.declared.reply.Reply.{Reply}
+use Rattle.amm_names.specs.Names.{Name}
+use Rattle.amm_model.specs.declared.route.Quote.{Quote}
+use Rattle.amm_model.specs.Outcome.{Outcome}
 use Rattle.amm_model.specs.CommandView as command
 use Rattle.amm_model.specs.CommandView.{CommandView}
 use Rattle.amm_model.specs.Reading.{command_of_line}
-use Rattle.amm_model.specs.Ledger.{Ledger}
+use Rattle.amm_model.specs.Ledger.{Ledger, quote_of}
+use Rattle.amm_model.specs.Sound.{IsAtRest}
+use Rattle.amm_model.specs.Routing.{PoolTrade, IsRoute, delivered_by, open_view}
+use Rattle.amm_model.specs.Settlement.{IsDue, IsPaidAsQuoted}
 use Rattle.amm_model.specs.Laws.{ZeroKept, TokenTotalsKept, Deposited, Withdrawn}
-use Rattle.amm_model.specs.Answers.{Answers, After}
+use Rattle.amm_model.specs.Answers.{ComesTo, answer_of, ledger_after}
 use Rattle.amm_model.specs.ReplyText.{reply_text}
 
 -- the texts of the replies, joined
@@ -33,7 +39,7 @@ OfOneLine = Ledger → ℕ → Line → List Reply → Ledger → Type 0
 unfoldable pub Step : OfOneLine
 Step old number Blank replies new = (replies ≡ []) × (new ≡ old)
 Step old number line replies new =
-    (answer : Answer) × Answers old line answer × (replies ≡ one_reply number answer) × (new ≡ After old line answer)
+    (outcome : Outcome Answer) × ComesTo old line outcome × (replies ≡ one_reply number (answer_of outcome)) × (new ≡ ledger_after old outcome)
 
 -- From old, the lines, of which the first has this number, have these replies, and leave new, where
 -- One holds at each line.
@@ -59,13 +65,39 @@ abbrev pub TotalsMovedBy : Line → Answer → Ledger → Ledger → Type 0
 TotalsMovedBy (Whole bytes) answer old new = MatchResult (command_of_line bytes) (λ asked. TotalsMoved asked answer old new) (λ _. TokenTotalsKept old new)
 TotalsMovedBy line answer old new = TokenTotalsKept old new
 
--- A step of which more is known: a refused line changes nothing, no asset of the zero holder falls,
--- and the totals of tokens are moved by an accepted deposit or withdrawal alone.
+-- What is known of settlements. One that has to be accepted is, and tells what its quote delivers;
+-- and whenever one is accepted, its quote is paid.
+pub record SettlesQuotes (actor : Name) (asked deadline : ℕ) (answer : Answer) (old new : Ledger) : Type 0 where
+  pub due : (quote : Quote) → quote_of old.quotes asked ≡ Some quote → IsDue old actor quote deadline → answer ≡ answers.Settle quote.delivered
+  pub paid : (delivered : ℕ) → answer ≡ answers.Settle delivered →
+      (quote : Quote) × (quote_of old.quotes asked ≡ Some quote) × (delivered ≡ quote.delivered) × IsPaidAsQuoted old new actor quote
+
+-- the same for the command of a line, if it is one
+abbrev pub SettledBy : CommandView → Answer → Ledger → Ledger → Type 0
+SettledBy (command.act actor (command.settle asked deadline)) answer old new = SettlesQuotes actor asked deadline answer old new
+SettledBy asked answer old new = Unit {0}
+
+-- what holds of the command of a line, if it has one
+abbrev pub OfCommand : Line → (CommandView → Type 0) → Type 0
+OfCommand (Whole bytes) holds = MatchResult (command_of_line bytes) holds (λ _. Unit {0})
+OfCommand line holds = Unit {0}
+
+-- no route over the pools of a printed quote delivers more than the bound that is printed
+abbrev pub IsUnbeaten : Answer → Type 0
+IsUnbeaten (answers.Split number quote) = (route : List PoolTrade) → IsRoute (open_view quote.problem) route → delivered_by (open_view quote.problem) route ≤ quote.bound
+IsUnbeaten answer = Unit {0}
+
+-- A step of which more is known: it leaves a ledger at rest; a refused line changes nothing, no
+-- asset of the zero holder falls, and the totals of tokens are moved by an accepted deposit or
+-- withdrawal alone; settlements pay their quotes; and no route beats the bound of a split.
 pub record FairStep (old : Ledger) (number : ℕ) (line : Line) (replies : List Reply) (new : Ledger) : Type 0 where
   pub step : Step old number line replies new
+  pub rest : IsAtRest new
   pub refused : (why : Refusal) → replies ≡ one_reply number (answers.Refused why) → new ≡ old
   pub zero : ZeroKept old new
   pub totals : (answer : Answer) → replies ≡ one_reply number answer → TotalsMovedBy line answer old new
+  pub settled : (answer : Answer) → replies ≡ one_reply number answer → OfCommand line (λ asked. SettledBy asked answer old new)
+  pub unbeaten : (answer : Answer) → replies ≡ one_reply number answer → IsUnbeaten answer
 
 -- the runs in which each step is fair
 abbrev pub FairRun : Ledger → ℕ → List Line → List Reply → Ledger → Type 0

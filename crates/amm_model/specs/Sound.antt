@@ -1,5 +1,5 @@
 -- What holds of the ledger at every line.
-use Rattle.std.specs.Prelude.{◌≡◌, ◌≢◌, ◌*◌, ◌^◌, ◌<◌, ◌≤◌, ◌⊎◌, true, false, length, Some, IsSome}
+use Rattle.std.specs.Prelude.{◌≡◌, ◌≢◌, ◌*◌, ◌^◌, ◌<◌, ◌≤◌, ◌⊎◌, true, false, length, All, Some, IsSome}
 use Rattle.std.specs.Map.{keys_of}
 use Rattle.std.specs.List.{IsDistinct}
 use Rattle.amm_names.specs.Names.{Name}
@@ -12,6 +12,7 @@ use Rattle.amm_model.specs.Formulas.{IsBacked}
 use Rattle.amm_model.specs.Ledger.{Ledger, balance, total, is_listed, pair_of}
 use Rattle.amm_model.specs.declared.limits.TheConstants.{AMOUNT_LIMIT, TOKEN_LIMIT, PAIR_LIMIT, QUOTE_LIMIT, OBSERVATION_LIMIT, RESERVE_LIMIT, FIRST_LOCKED}
 use Rattle.amm_model.specs.Pools.{Terms, held0, held1, supply, same_name}
+use Rattle.amm_model.specs.SplitAnswers.{IsSplitAnswer}
 
 -- the numbers of the record are within their widths
 pub record IsSmall (pair : PairRecord) : Type 0 where
@@ -41,7 +42,7 @@ IsKnown ledger (asset.Token name) = is_listed ledger.tokens name ≡ true
 IsKnown ledger (asset.Share pool) = IsSome (pair_of ledger.pairs pool)
 
 -- every pair is sound and has a name of its own, totals are within their limit, only known assets
--- are held, and the counts are within theirs
+-- are held, every quote answers the problem that it keeps, and the counts are within theirs
 pub record IsSound (ledger : Ledger) : Type 0 where
   pub pairs : (pool : Name) (pair : PairRecord) → pair_of ledger.pairs pool ≡ Some pair → IsSoundPair ledger pool pair
   pub names : IsDistinct same_name (keys_of ledger.pairs)
@@ -51,6 +52,7 @@ pub record IsSound (ledger : Ledger) : Type 0 where
   pub count : length ledger.pairs ≤ PAIR_LIMIT
   pub time : ledger.time ≤ AMOUNT_LIMIT
   pub quotes : length ledger.quotes ≤ QUOTE_LIMIT
+  pub answers : All IsSplitAnswer ledger.quotes
   pub observations : length ledger.observations ≤ OBSERVATION_LIMIT
 
 -- sound, and no pair is locked

@@ -1,5 +1,5 @@
 -- Which quotes answer a split, and when there is none.
-use Rattle.std.specs.Prelude.{ℕ, ◌≡◌, ◌↔◌}
+use Rattle.std.specs.Prelude.{ℕ, ◌≡◌}
 use Rattle.amm_model.specs.Routing.{ProblemView, open_view}
 use Rattle.amm_model.specs.Bound.{bound_of}
 use Rattle.amm_model.specs.Legs.{Delivers}

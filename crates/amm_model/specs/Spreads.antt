@@ -1,6 +1,6 @@
 -- What a split answer has to deliver at least, beside one-way and two-way values: the amount spread
 -- over several paths, share after share, each where it gains most.
-use Rattle.std.specs.Prelude.{ℕ, ◌≡◌, ◌+◌, ◌-◌, ◌*◌, ◌/◌, ◌<◌, ◌≤◌, ◌≢◌, ◌⊎◌, ◌++◌, List, [], ◌∷◌, sum_by}
+use Rattle.std.specs.Prelude.{ℕ, ◌≡◌, ◌-◌, ◌*◌, ◌/◌, ◌<◌, ◌≤◌, ◌≢◌, ◌⊎◌, ◌++◌, List, [], ◌∷◌, sum_by}
 use Rattle.amm_model.specs.Routing.{ProblemView}
 use Rattle.amm_names.specs.Names.{Name}
 use Rattle.amm_model.specs.Bound.{price_of}

@@ -1,6 +1,4 @@
-pub mod Moved
 pub mod Swapping
-pub mod Rule
 pub mod Trading
 pub mod ZeroSide
 pub mod OneSide

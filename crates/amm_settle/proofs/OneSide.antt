@@ -24,9 +24,9 @@ use Rattle.amm_model.specs.Settlement.{perform_leg}
 use Rattle.amm_model.proofs.Names.{some_there, pair_of-set_other}
 use Rattle.amm_model.proofs.Soundness.{tokens_apart}
 use Rattle.amm_model.proofs.Swap.{fee_range, amount_out-lt, admits_turned}
-use Rattle.amm_settle.proofs.Moved.{Moved, moved_moved, transfer_made}
+use Rattle.amm_model.proofs.Moved.{Moved, moved_moved, transfer_made}
 use Rattle.amm_settle.proofs.Swapping.{CanSwap, IsSwapped, SwapDone, swap_done}
-use Rattle.amm_settle.proofs.Rule.{rule_kept}
+use Rattle.amm_model.proofs.Rule.{rule_kept}
 use Rattle.amm_settle.proofs.Trading.{IsAsKept, IsSoundPool, IsTraded, TradeDone, untouched, other_pairs}
 
 module _ (ledger : Ledger) (pool : ProblemPool) (actor : Name) (x y : ℕ) (kept : IsAsKept ledger pool) (sound : IsSoundPool pool)

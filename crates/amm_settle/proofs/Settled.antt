@@ -30,7 +30,7 @@ use Rattle.amm_model.proofs.Guards.{not_refused, same_answer}
 use Rattle.amm_model.proofs.Names.{same_name_itself}
 use Rattle.amm_model.proofs.Problems.{fee_of-is, tokens_differ}
 use Rattle.amm_state.specs.Tx.{TxView, Meets}
-use Rattle.amm_settle.specs.Paid.{IsPaidAsQuoted, IsCodeOfSettling}
+use Rattle.amm_model.specs.Settlement.{IsPaidAsQuoted, IsCodeOfSettling}
 use Rattle.amm_settle.specs.Places.{AreThere}
 use Rattle.amm_settle.proofs.Trading.{IsAsKept, IsSoundPool}
 use Rattle.amm_settle.proofs.AllLegs.{AreAsKept, AreSoundPools, IsNoPoolOf, LegsDone, legs_done}

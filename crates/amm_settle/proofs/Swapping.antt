@@ -18,7 +18,7 @@ use Rattle.amm_model.specs.Operations.{renewed_record, updated_record_to, unlock
 use Rattle.amm_model.proofs.Soundness.{tokens_apart}
 use Rattle.amm_pair.specs.Straight.{swap_straight}
 use Rattle.amm_pair.proofs.Straight.{swap_is_straight}
-use Rattle.amm_settle.proofs.Moved.{Moved, moved_moved, transfer_made}
+use Rattle.amm_model.proofs.Moved.{Moved, moved_moved, transfer_made}
 
 -- A swap to a user passes its tests: b0 and b1 are what the pool has after its outputs.
 pub record CanSwap (ledger : Ledger) (pool : List ℕ) (pair : PairRecord) (out0 out1 b0 b1 : ℕ) : Type 0 where

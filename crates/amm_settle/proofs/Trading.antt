@@ -24,9 +24,9 @@ use Rattle.amm_model.specs.Settlement.{perform_leg}
 use Rattle.amm_model.proofs.Names.{some_there, pair_of-set_other}
 use Rattle.amm_model.proofs.Soundness.{tokens_apart}
 use Rattle.amm_model.proofs.Swap.{fee_range, amount_out-lt, admits_turned}
-use Rattle.amm_settle.proofs.Moved.{Moved, moved_moved, transfer_made}
+use Rattle.amm_model.proofs.Moved.{Moved, moved_moved, transfer_made}
 use Rattle.amm_settle.proofs.Swapping.{CanSwap, IsSwapped, SwapDone, swap_done}
-use Rattle.amm_settle.proofs.Rule.{rule_kept}
+use Rattle.amm_model.proofs.Rule.{rule_kept}
 
 -- The pool has a pair that is free, and reserves and balances are as they were kept.
 pub record IsAsKept (ledger : Ledger) (pool : ProblemPool) : Type 0 where

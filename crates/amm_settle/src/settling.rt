@@ -7,7 +7,7 @@ ghost use Rattle.amm_model.specs.Routing.{open_view};
 ghost use Rattle.amm_model.specs.Settlement.{settle};
 ghost use Rattle.amm_model.specs.Sound.{IsSound};
 ghost use Rattle.amm_state.specs.Tx.{Meets};
-ghost use Rattle.amm_settle.specs.Paid.{IsCodeOfSettling, IsPaidAsQuoted};
+ghost use Rattle.amm_model.specs.Settlement.{IsCodeOfSettling, IsPaidAsQuoted};
 ghost use Rattle.amm_settle.specs.Places.{AreThere};
 
 use crate::as_quoted::{all_as_kept, any_locked};

@@ -1,7 +1,5 @@
-use Rattle.std.proofs.Common.{subst, ap, sym, ◌∙◌, ◌≡◌, true}
+use Rattle.std.proofs.Common.{ap, sym, ◌∙◌}
 use Rattle.std.specs.Cmp.{Equal-is}
-use Rattle.amm_names.specs.declared.holder.Holder.{Holder}
-use Rattle.amm_names.specs.declared.holder.Asset.{Asset}
 use Rattle.amm_names.specs.Order.{holder_cmp, asset_cmp, same_holder, same_asset}
 use Rattle.amm_names.proofs.OrderLemmas.{holder_antisymmetric, asset_antisymmetric}
 use Rattle.amm_model.proofs.LedgerLemmas.{same_holder_itself, same_asset_itself}

@@ -3,7 +3,7 @@ use Rattle.amm_model.specs.declared.problem.ProblemPool.{ProblemPool}
 use Rattle.std.specs.Prelude.{List}
 use Rattle.amm_model.specs.Ledger.{Ledger}
 use Rattle.amm_state.proofs.Meets.{on_ok}
-use Rattle.amm_settle.specs.Paid.{IsPaidAsQuoted}
+use Rattle.amm_model.specs.Settlement.{IsPaidAsQuoted}
 use Rattle.amm_settle.specs.Places.{AreThere}
 use Rattle.amm_settle.proofs.Settled.{legs_there, refused_so, settle_codes, settle_pays}
 use Rattle.amm_settle.proofs.settling.settle.Goals as goal

@@ -1,9 +1,8 @@
 -- What a leg pays keeps the rule of a swap, however much the pool has above its reserves.
-use Rattle.std.proofs.Common.{◌≡◌, ℕ, ◌+◌, ◌-◌, ◌*◌, ◌<◌, ◌≤◌, Bool, true, ap, sym, ◌∙◌, arith}
-use Rattle.std.specs.Prelude.{IsTrue}
+use Rattle.std.proofs.Common.{◌≡◌, ℕ, ◌+◌, ◌-◌, ◌*◌, ◌<◌, ◌≤◌, ap, arith}
 use Rattle.std.proofs.Math.Nat.{mul-le-mul}
-use Rattle.amm_model.specs.Swap.{Admits, admits, amount_out_of}
-use Rattle.amm_model.proofs.Swap.{admits_le, le_admits, admits_turned, greatest_output}
+use Rattle.amm_model.specs.Swap.{Admits, amount_out_of}
+use Rattle.amm_model.proofs.Swap.{admits_le, le_admits, greatest_output}
 
 -- what more lies on a side counts for more, whatever the fee takes of it
 side_more : (fee r x s : ℕ) → fee ≤ 1000 → 1000 * (r + x) - fee * x ≤ 1000 * ((r + s) + x) - fee * (s + x)
