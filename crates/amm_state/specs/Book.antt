@@ -37,6 +37,10 @@ with_token ledger token = record ledger { tokens = ledger.tokens ++ token ∷ []
 abbrev pub without_token : Ledger → Ledger
 without_token ledger = record ledger { tokens = take (length ledger.tokens - 1) ledger.tokens }
 
+-- the ledger without the quote that was kept last
+abbrev pub without_quote : Ledger → Ledger
+without_quote ledger = record ledger { quotes = take (length ledger.quotes - 1) ledger.quotes }
+
 -- the ledger with these pairs
 abbrev pub with_pairs : Ledger → Pairs → Ledger
 with_pairs ledger pairs = record ledger { pairs = pairs }

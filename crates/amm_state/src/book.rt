@@ -1,11 +1,11 @@
 //! The tables of the ledger.
-ghost use Rattle.std.specs.Prelude.{◌≡◌, ◌+◌, ◌-◌, ◌<◌, ◌≤◌, ◌++◌, ◌∷◌, [], false, take, OnOk, OnErr, IfOk, IfErr, IsTrue, length, None, slice_get};
+ghost use Rattle.std.specs.Prelude.{◌≡◌, ◌+◌, ◌-◌, ◌<◌, ◌≤◌, ◌++◌, ◌∷◌, [], false, take, OnOk, OnErr, IfOk, IfErr, IfSome, IfNone, Some, IsTrue, length, None, slice_get};
 ghost use Rattle.std.specs.FinMap as map;
 ghost use Rattle.amm_model.specs.declared.fault.Refusal.TheVariants as refusal;
-ghost use Rattle.amm_model.specs.Ledger.{balance, set_balance, total, is_listed, opening_ledger, pair_of, set_pair, zero_pair, with_fee_to, with_setter};
+ghost use Rattle.amm_model.specs.Ledger.{balance, set_balance, total, is_listed, opening_ledger, pair_of, quote_of, set_pair, zero_pair, with_fee_to, with_quote, with_setter};
 ghost use Rattle.amm_model.specs.declared.limits.TheConstants.{AMOUNT_LIMIT};
 ghost use Rattle.amm_state.specs.Assets.{has_row};
-ghost use Rattle.amm_state.specs.Book.{with_balance, with_ledger, with_token, without_token, with_pairs, with_time};
+ghost use Rattle.amm_state.specs.Book.{with_balance, with_ledger, with_token, without_token, without_quote, with_pairs, with_time};
 ghost use Rattle.amm_state.specs.Rows.{Because};
 ghost use Rattle.std.specs.List.{list_any};
 ghost use Rattle.std.specs.Map.{values_of};
@@ -15,21 +15,22 @@ ghost use Rattle.std.specs.Option.{option_copied, option_map};
 use crate::Seed;
 use crate::assets::Assets;
 use crate::rows::Before;
-use amm_model::{Fault, PairRecord};
+use amm_model::{Fault, PairRecord, Quote};
 use amm_names::{Asset, Holder, Memory, PoolName, TokenName, UserName};
 use indexmap::{IndexMap, IndexSet};
 use std::alloc::Global;
 use std::marker::Model;
 use std::mem::replace;
 
-/// The tables of the ledger: who holds what, the listed tokens, the pairs, the protocol's settings
-/// and the time. Contracts see the ledger, and beside it which accounts have a row, which may say
-/// 0.
+/// The tables of the ledger: who holds what, the listed tokens, the pairs, the kept quotes, the
+/// protocol's settings and the time. Contracts see the ledger, and beside it which accounts have a
+/// row, which may say 0.
 #[derive(Drop)]
 pub struct Book {
     assets: Assets,
     tokens: IndexSet<TokenName, Seed>,
     pairs: IndexMap<PoolName, PairRecord, Seed>,
+    quotes: Vec<Quote>,
     fee_to: Holder,
     setter: UserName,
     time: u64,
@@ -43,7 +44,7 @@ impl Model for Book {
 
     ghost coded = { book_code };
 
-    ghost view = { λ book. record { ledger = record { holdings = book.assets.holdings; tokens = book.tokens.keys; pairs = book.pairs.entries; fee_to = book.fee_to; setter = book.setter; time = book.time; quotes = []; observations = [] }; rows = book.assets.rows } };
+    ghost view = { λ book. record { ledger = record { holdings = book.assets.holdings; tokens = book.tokens.keys; pairs = book.pairs.entries; fee_to = book.fee_to; setter = book.setter; time = book.time; quotes = book.quotes.items; observations = [] }; rows = book.assets.rows } };
 }
 
 // Writes the record of a pool, if it has a pair, and gives the one that stood there.
@@ -70,6 +71,7 @@ impl Book {
             assets: Assets::new(alloc, seed),
             tokens: IndexSet::with_hasher(alloc, seed),
             pairs: IndexMap::with_hasher(alloc, seed),
+            quotes: Vec::new(alloc),
             fee_to: Holder::Zero,
             setter,
             time: 0,
@@ -133,6 +135,22 @@ impl Book {
         ensures { result ≡ list_any (λ pair. pair.locked) (values_of self.now.ledger.pairs) }
     {
         self.pairs.values().any(|pair| pair.locked)
+    }
+
+    /// The quote with this number, counted from 1, if it is kept.
+    pub fn quote(&self, number: u64) -> Option<&Quote>
+        ensures some { IfSome result (λ quote. quote_of self.now.ledger.quotes number ≡ Some quote.now) }
+        ensures none { IfNone result (quote_of self.now.ledger.quotes number ≡ None) }
+    {
+        let before = number.checked_sub(1)?;
+        self.quotes.get(before as usize)
+    }
+
+    /// How many quotes are kept.
+    pub fn quote_count(&self) -> usize
+        ensures { result ≡ length self.now.ledger.quotes }
+    {
+        self.quotes.len()
     }
 
     /// Who receives the protocol's fee.
@@ -271,6 +289,22 @@ impl Book {
         ensures written { self.new ≡ with_ledger self.old (with_pairs self.old.ledger (set_pair self.old.ledger.pairs pool.now pair)) }
     {
         replace_record(&mut self.pairs, pool, pair)
+    }
+
+    /// Keeps a quote, the last.
+    pub(crate) fn add_quote(&mut self, quote: Quote) -> Result<(), Memory>
+        ensures ok { OnOk result (self.new ≡ with_ledger self.old (with_quote self.old.ledger quote)) }
+        ensures err { OnErr result (self.new ≡ self.old) }
+    {
+        self.quotes.push(quote)?;
+        Ok(())
+    }
+
+    /// Gives up the quote that was kept last.
+    pub(crate) fn remove_last_quote(&mut self)
+        ensures { self.new ≡ with_ledger self.old (without_quote self.old.ledger) }
+    {
+        let _ = self.quotes.pop();
     }
 
     pub(crate) fn set_fee_to(&mut self, to: Holder)

@@ -13,6 +13,7 @@ pub enum Undo {
     Token,
     NewPair,
     Pair(PoolName, PairRecord),
+    NewQuote,
     FeeTo(Holder),
     Setter(UserName),
     Time(u64),

@@ -3,7 +3,7 @@ ghost use Rattle.std.specs.Prelude.{◌≡◌, OnOk};
 ghost use Rattle.amm_state.specs.declared.mark.Mark.{Mark};
 
 use crate::{Book, Mark, Seed, State, Tx};
-use amm_model::{Fault, Refusal};
+use amm_model::{Fault, Leg, LegList, Prices, Problem, Quote, Refusal, Route};
 use amm_names::{Asset, Holder, PoolName, TokenName, UserName};
 use std::alloc::Global;
 use std::test::Fail;
@@ -69,6 +69,7 @@ fn is_opening(book: &Book, asset: &Asset) -> bool {
     book.total(asset) == 0
         && book.token_count() == 0
         && book.pair_count() == 0
+        && book.quote_count() == 0
         && *book.fee_to() == Holder::Zero
         && book.setter().as_bytes() == b"admin".as_slice()
         && book.time() == 0
@@ -212,6 +213,80 @@ fn takes_pairs_back(rt: HostRuntime) -> Result<(), Fail> {
     let shown = shows_pair(tx.book());
     let state = tx.rollback();
     assert!(&rt; done && shown && is_opening(state.book(), &asset));
+    Ok(())
+}
+
+// A quote of 7 units of T, over no pools.
+fn empty_quote(alloc: Global) -> Result<Quote, Fail> {
+    let t = token(alloc)?;
+    let Some(u) = TokenName::read(alloc, b"U".as_slice())? else {
+        return Err("no token")?;
+    };
+    let Some(problem) = Problem::from_parts(alloc, t, u, 7, Vec::new(alloc))? else {
+        return Err("no problem")?;
+    };
+    let Some(prices) = Prices::from_parts(Vec::new(alloc)) else {
+        return Err("no prices")?;
+    };
+    let legs: Vec<Leg> = Vec::new(alloc);
+    Ok(Quote {
+        problem,
+        prices,
+        route: Route {
+            legs: LegList::from_vec(legs),
+        },
+        delivered: 0,
+        bound: 7,
+    })
+}
+
+// Keeps the quote n times, and then once more.
+fn keeps(alloc: Global, tx: &mut Tx, quote: &Quote, n: u32) -> Result<u64, Fault>
+    requires { tx.old.mark ≡ Mark.Clean }
+{
+    'quotes: for _ in 0..n {
+        keeps_one(alloc, tx, quote)?;
+    }
+    keeps_one(alloc, tx, quote)
+}
+
+fn keeps_one(alloc: Global, tx: &mut Tx, quote: &Quote) -> Result<u64, Fault>
+    requires { tx.old.mark ≡ Mark.Clean }
+    ensures { OnOk result (tx.new.mark ≡ Mark.Clean) }
+{
+    match quote.copy(alloc) {
+        Ok(copy) => tx.add_quote(alloc, copy),
+        Err(_) => Err(tx.lack()),
+    }
+}
+
+// Whether the quotes numbered 1 to `last`, and no others, are kept.
+fn shows_quotes(book: &Book, last: u32) -> bool {
+    let last = last as u64;
+    book.quote_count() as u64 == last
+        && book.quote(0).is_none()
+        && book.quote(1).is_some()
+        && book.quote(last).is_some()
+        && book.quote(last + 1).is_none()
+        && book.quote(u64::MAX).is_none()
+}
+
+#[test]
+fn takes_quotes_back(rt: HostRuntime) -> Result<(), Fail> {
+    let alloc = rt.alloc();
+    let asset = Asset::Token(token(alloc)?);
+    let quote = empty_quote(alloc)?;
+    let mut tx = Tx::begin(new_state(alloc)?);
+    let number = keeps(alloc, &mut tx, &quote, 1);
+    let shown = shows_quotes(tx.book(), 2);
+    let mut tx = Tx::begin(tx.rollback());
+    let none = is_opening(tx.book(), &asset);
+    let past = keeps(alloc, &mut tx, &quote, 256);
+    let full = shows_quotes(tx.book(), 256);
+    let state = tx.rollback();
+    assert_eq!(&rt; number, Ok(2));
+    assert_eq!(&rt; past, Err(Fault::Refused(Refusal::QuoteLimit)));
+    assert!(&rt; shown && none && full && is_opening(state.book(), &asset));
     Ok(())
 }
 

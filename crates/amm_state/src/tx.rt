@@ -1,5 +1,7 @@
 //! A transaction over the ledger.
-ghost use Rattle.std.specs.Prelude.{◌≡◌};
+ghost use Rattle.std.specs.Prelude.{◌≡◌, Ok, Err};
+ghost use Rattle.amm_model.specs.declared.fault.Fault.TheVariants.{Refused};
+ghost use Rattle.amm_model.specs.declared.fault.Refusal.{Refusal as Code};
 ghost use Rattle.amm_model.specs.Sound.{IsAtRest};
 ghost use Rattle.amm_state.specs.declared.mark.Mark.{Mark};
 ghost use Rattle.amm_state.specs.Tx.{mark_of};
@@ -84,8 +86,8 @@ impl Tx {
         Fault::Memory
     }
 
-    // Ends the transaction by this fault.
-    fn fail(&mut self, fault: Fault) -> Fault
+    /// Ends the transaction by this fault.
+    pub fn fail(&mut self, fault: Fault) -> Fault
         requires { self.old.mark ≡ Mark.Clean }
         ensures fault { result ≡ fault }
         ensures after { self.new ≡ record self.old { mark = mark_of fault } }
@@ -93,6 +95,18 @@ impl Tx {
         match fault {
             Fault::Refused(why) => self.refuse(why),
             Fault::Memory => self.lack(),
+        }
+    }
+
+    /// What was found; a refusal refuses the transaction.
+    pub fn admit<T>(&mut self, found: Result<T, Refusal>) -> Result<T, Fault>
+        requires { self.old.mark ≡ Mark.Clean }
+        ensures ok { (x : T) → found ≡ Ok x → (result ≡ Ok x) × (self.new ≡ self.old) }
+        ensures err { (why : Code) → found ≡ Err why → (result ≡ Err (Refused why)) × (self.new ≡ record self.old { mark = Mark.Refused why }) }
+    {
+        match found {
+            Ok(x) => Ok(x),
+            Err(why) => Err(self.refuse(why)),
         }
     }
 

@@ -1,16 +1,16 @@
-//! The listed tokens and the pairs.
+//! The listed tokens, the pairs and the kept quotes.
 ghost use Rattle.std.specs.Prelude.{◌≡◌, ◌++◌, ◌∷◌, [], OnOk, OnErr, false, None, IsSome};
-ghost use Rattle.amm_model.specs.Ledger.{with_pair, is_listed, pair_of, zero_pair};
+ghost use Rattle.amm_model.specs.Ledger.{with_pair, with_quote, is_listed, pair_of, zero_pair};
 ghost use Rattle.amm_model.specs.Outcome.{ledger_only};
-ghost use Rattle.amm_model.specs.Postings.{list_token, add_pair};
+ghost use Rattle.amm_model.specs.Postings.{list_token, add_pair, add_quote};
 ghost use Rattle.amm_state.specs.declared.mark.Mark.{Mark};
 ghost use Rattle.amm_state.specs.Book.{with_token, with_pairs};
 ghost use Rattle.amm_state.specs.Tx.{Meets};
 
 use super::Tx;
 use crate::journal::Undo;
-use amm_model::limits::{PAIR_LIMIT, TOKEN_LIMIT};
-use amm_model::{Fault, PairRecord, Refusal};
+use amm_model::limits::{PAIR_LIMIT, QUOTE_LIMIT, TOKEN_LIMIT};
+use amm_model::{Fault, PairRecord, Quote, Refusal};
 use amm_names::{Memory, PoolName, TokenName};
 use std::alloc::Global;
 
@@ -93,6 +93,32 @@ impl Tx {
         self.journal.reserve(1)?;
         let before = self.book.replace_pair(pool, new).unwrap();
         self.journal.note(Undo::Pair(*pool, before));
+        Ok(())
+    }
+
+    /// Keeps a quote, and gives its number. `QuoteLimit` exactly where 256 are kept.
+    pub fn add_quote(&mut self, alloc: Global, quote: Quote) -> Result<u64, Fault>
+        requires { self.old.mark ≡ Mark.Clean }
+        ensures { Meets self.old self.new result (add_quote self.old.present quote) }
+    {
+        if self.book.quote_count() >= QUOTE_LIMIT {
+            return Err(self.refuse(Refusal::QuoteLimit));
+        }
+        let number = self.book.quote_count() as u64 + 1;
+        match self.put_quote(quote) {
+            Ok(()) => Ok(number),
+            Err(_) => Err(self.lack()),
+        }
+    }
+
+    // Keeps a quote, and notes that it was not there.
+    fn put_quote(&mut self, quote: Quote) -> Result<(), Memory>
+        ensures ok { OnOk result (self.new ≡ record self.old { present = with_quote self.old.present quote }) }
+        ensures err { OnErr result (self.new ≡ self.old) }
+    {
+        self.journal.reserve(1)?;
+        self.book.add_quote(quote)?;
+        self.journal.note(Undo::NewQuote);
         Ok(())
     }
 }

@@ -16,6 +16,7 @@ opening_sound setter = record {
   count = omega arith;
   time = omega arith;
   quotes = omega arith;
+  answers = λ i d short. absurd (omega arith);
   observations = omega arith;
 }
 
