@@ -14,7 +14,7 @@ ghost use Rattle.amm_graph.specs.Hops.{hops_of};
 
 use amm_model::{Memory, OpenProblem, Problem};
 pub use amounts::{along, gives};
-pub use market::{open_problem, problem};
+pub use market::{open_problem, problem, problem_of_book};
 pub use path::Path;
 use std::alloc::Global;
 use walk::{Ends, extend};

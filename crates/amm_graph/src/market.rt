@@ -33,7 +33,23 @@ pub fn problem(
     requires amount { (1 ≤ d) × (d < 2 ^ 52) }
     ensures { IfOk result (λ problem. IsProblemIn state.now s.now t.now d problem) }
 {
-    let pools = pools_of(alloc, state)?;
+    problem_of_book(alloc, state.book(), s, t, d)
+}
+
+/// The same over a book within a transaction, whose ledger is at rest.
+pub fn problem_of_book(
+    alloc: Global,
+    book: &Book,
+    s: &TokenName,
+    t: &TokenName,
+    d: u64,
+) -> Result<Problem, Memory>
+    requires rest { IsAtRest book.now.ledger }
+    requires apart { s.now ≢ t.now }
+    requires amount { (1 ≤ d) × (d < 2 ^ 52) }
+    ensures { IfOk result (λ problem. IsProblemIn book.now.ledger s.now t.now d problem) }
+{
+    let pools = pools_of(alloc, book)?;
     Ok(Problem::from_parts(alloc, *s, *t, d, pools)?.unwrap())
 }
 
@@ -50,19 +66,19 @@ pub fn open_problem(
     requires amounts { All (λ (part : part_view.Part). (1 ≤ part.amount) × (part.amount < 2 ^ 52)) parts.now }
     ensures { IfOk result (λ problem. IsOpenProblemIn state.now parts.now t.now problem) }
 {
-    let pools = pools_of(alloc, state)?;
+    let book = state.book();
+    let pools = pools_of(alloc, book)?;
     let parts = Vec::from_slice(alloc, parts)?;
     Ok(OpenProblem::from_parts(alloc, parts, *t, pools)?.unwrap())
 }
 
 // The pools whose two reserves are positive, in the order of their names.
-fn pools_of(alloc: Global, state: &State) -> Result<Vec<ProblemPool>, Memory>
-    ensures pools { IfOk result (λ pools. (pool : pool_view.ProblemPool) → Contains pools.items pool ↔ IsPoolIn state.now pool) }
+fn pools_of(alloc: Global, book: &Book) -> Result<Vec<ProblemPool>, Memory>
+    requires rest { IsAtRest book.now.ledger }
+    ensures pools { IfOk result (λ pools. (pool : pool_view.ProblemPool) → Contains pools.items pool ↔ IsPoolIn book.now.ledger pool) }
     ensures names { IfOk result (λ pools. AllPairs (λ (a b : pool_view.ProblemPool). IsBefore a.name b.name) pools.items) }
-    ensures few { IfOk result (λ pools. length pools.items ≤ length state.now.pairs) }
-    ensures rest { IsAtRest state.now }
+    ensures few { IfOk result (λ pools. length pools.items ≤ length book.now.ledger.pairs) }
 {
-    let book = state.book();
     let names = names_of(alloc, book)?;
     let pools = pools_named(alloc, book, &names)?;
     Ok(pools)
