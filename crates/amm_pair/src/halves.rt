@@ -74,10 +74,7 @@ pub(crate) fn settle(
     if !admits(pool.fee(), pair.r0, pair.r1, b0, b1, paid.in0, paid.in1) {
         return Err(tx.refuse(Refusal::K));
     }
-    let new = match updated(pair, tx.book().time(), b0, b1) {
-        Ok(new) => new,
-        Err(why) => return Err(tx.refuse(why)),
-    };
+    let new = tx.admit(updated(pair, tx.book().time(), b0, b1))?;
     let free = PairRecord {
         locked: false,
         ..new

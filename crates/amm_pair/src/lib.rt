@@ -2,15 +2,16 @@
 //! or abandoned.
 //!
 //! Each call leaves the ledger, answers and refuses exactly as its definition says, whoever
-//! receives. An accepted call leaves a sound ledger sound. A swap and a closed loan never lower the
-//! product of the reserves, and a mint and a burn never lower it against the squared supply after
-//! the protocol's fee.
+//! receives; `pay` brings a pool what a user puts in. An accepted call leaves a sound ledger sound.
+//! A swap and a closed loan never lower the product of the reserves, and a mint and a burn never
+//! lower it against the squared supply after the protocol's fee.
 #![tactic(auto)]
 
 mod halves;
 mod holdings;
 mod loans;
 mod mint_burn;
+mod payments;
 mod protocol;
 mod records;
 mod surplus;
@@ -20,5 +21,6 @@ mod tests;
 
 pub use loans::{Loan, abandon_loan, close_loan, open_loan};
 pub use mint_burn::{burn, mint};
+pub use payments::pay;
 pub use surplus::{skim, sync};
 pub use swaps::swap;

@@ -117,10 +117,7 @@ fn lend(
     requires sound { IsSound tx.old.present }
     ensures { Meets tx.old tx.new result (lend tx.old.present pool.now out0 out1 to.now) }
 {
-    let pair = match lendable(tx.book(), pool, out0, out1, to) {
-        Ok(pair) => pair,
-        Err(why) => return Err(tx.refuse(why)),
-    };
+    let pair = tx.admit(lendable(tx.book(), pool, out0, out1, to))?;
     let pair = PairRecord {
         locked: true,
         ..pair

@@ -39,10 +39,7 @@ fn mint_at(alloc: Global, tx: &mut Tx, pool: &PoolName, to: &Holder) -> Result<M
     requires sound { IsSound tx.old.present }
     ensures { Meets tx.old tx.new result (mint tx.old.present pool.now to.now) }
 {
-    let pair = match free_pair(tx.book(), pool) {
-        Ok(pair) => pair,
-        Err(why) => return Err(tx.refuse(why)),
-    };
+    let pair = tx.admit(free_pair(tx.book(), pool))?;
     let nobody = is_nobody(tx.book().fee_to());
     let fee = fee_due(tx.book(), pool, &pair);
     let before = supply(tx.book(), pool) + fee;
@@ -54,10 +51,7 @@ fn mint_at(alloc: Global, tx: &mut Tx, pool: &PoolName, to: &Holder) -> Result<M
     give_shares(alloc, tx, pool, to, before, shares)?;
     let b0 = held0(tx.book(), pool);
     let b1 = held1(tx.book(), pool);
-    let new = match updated(&pair, tx.book().time(), b0, b1) {
-        Ok(new) => new,
-        Err(why) => return Err(tx.refuse(why)),
-    };
+    let new = tx.admit(updated(&pair, tx.book().time(), b0, b1))?;
     tx.set_pair(alloc, pool, with_product(nobody, &new))?;
     Ok(MintReceipt {
         shares,
@@ -115,10 +109,7 @@ fn burn_at(alloc: Global, tx: &mut Tx, pool: &PoolName, to: &Holder) -> Result<B
     requires sound { IsSound tx.old.present }
     ensures { Meets tx.old tx.new result (burn tx.old.present pool.now to.now) }
 {
-    let pair = match free_pair(tx.book(), pool) {
-        Ok(pair) => pair,
-        Err(why) => return Err(tx.refuse(why)),
-    };
+    let pair = tx.admit(free_pair(tx.book(), pool))?;
     let nobody = is_nobody(tx.book().fee_to());
     let fee = fee_due(tx.book(), pool, &pair);
     let whole = supply(tx.book(), pool) + fee;
@@ -135,10 +126,7 @@ fn burn_at(alloc: Global, tx: &mut Tx, pool: &PoolName, to: &Holder) -> Result<B
     send_parts(alloc, tx, pool, &parts, to)?;
     let b0 = held0(tx.book(), pool);
     let b1 = held1(tx.book(), pool);
-    let new = match updated(&pair, tx.book().time(), b0, b1) {
-        Ok(new) => new,
-        Err(why) => return Err(tx.refuse(why)),
-    };
+    let new = tx.admit(updated(&pair, tx.book().time(), b0, b1))?;
     tx.set_pair(alloc, pool, with_product(nobody, &new))?;
     Ok(parts)
 }

@@ -30,16 +30,10 @@ fn sync_at(alloc: Global, tx: &mut Tx, pool: &PoolName) -> Result<PairRecord, Fa
     requires sound { IsSound tx.old.present }
     ensures { Meets tx.old tx.new result (sync tx.old.present pool.now) }
 {
-    let pair = match free_pair(tx.book(), pool) {
-        Ok(pair) => pair,
-        Err(why) => return Err(tx.refuse(why)),
-    };
+    let pair = tx.admit(free_pair(tx.book(), pool))?;
     let b0 = held0(tx.book(), pool);
     let b1 = held1(tx.book(), pool);
-    let new = match updated(&pair, tx.book().time(), b0, b1) {
-        Ok(new) => new,
-        Err(why) => return Err(tx.refuse(why)),
-    };
+    let new = tx.admit(updated(&pair, tx.book().time(), b0, b1))?;
     tx.set_pair(alloc, pool, new)?;
     Ok(new)
 }
@@ -66,10 +60,7 @@ fn skim_at(alloc: Global, tx: &mut Tx, pool: &PoolName, to: &Holder) -> Result<S
     requires sound { IsSound tx.old.present }
     ensures { Meets tx.old tx.new result (skim tx.old.present pool.now to.now) }
 {
-    let pair = match free_pair(tx.book(), pool) {
-        Ok(pair) => pair,
-        Err(why) => return Err(tx.refuse(why)),
-    };
+    let pair = tx.admit(free_pair(tx.book(), pool))?;
     let excess = excess(tx.book(), pool, &pair);
     send_both(alloc, tx, pool, excess.sent0, excess.sent1, to)?;
     Ok(excess)

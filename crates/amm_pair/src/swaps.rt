@@ -47,10 +47,7 @@ fn swap_straight(
     requires sound { IsSound tx.old.present }
     ensures { Meets tx.old tx.new result (swap_straight tx.old.present pool.now out0 out1 to.now) }
 {
-    let pair = match lendable(tx.book(), pool, out0, out1, to) {
-        Ok(pair) => pair,
-        Err(why) => return Err(tx.refuse(why)),
-    };
+    let pair = tx.admit(lendable(tx.book(), pool, out0, out1, to))?;
     send_both(alloc, tx, pool, out0, out1, to)?;
     settle(alloc, tx, pool, &pair, out0, out1)
 }

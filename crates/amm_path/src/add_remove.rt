@@ -8,14 +8,13 @@ ghost use Rattle.amm_model.specs.Router.{with_pool, match_a, match_b, matched_am
 ghost use Rattle.amm_model.specs.Sound.{IsSound};
 ghost use Rattle.amm_state.specs.Tx.{Meets};
 
-use crate::payments::{fail, send};
 use crate::sides::side_of;
 use amm_factory::create;
 use amm_model::{
     AddReceipt, AddWant, Asset, BurnReceipt, Fault, Holder, Matched, PoolName, Refusal,
     RemoveReceipt, RemoveWant, Side, TokenName, UserName,
 };
-use amm_pair::{burn, mint};
+use amm_pair::{burn, mint, pay};
 use amm_pool::quote;
 use amm_state::{Mark, Tx};
 use std::alloc::Global;
@@ -69,13 +68,10 @@ fn add_at(
     with_pool(alloc, tx, &want.a, &want.b, want.fee)?;
     let side = match side_of(alloc, tx.book(), &want.a, &want.b, want.fee) {
         Ok(side) => side,
-        Err(fault) => return Err(fail(tx, fault)),
+        Err(fault) => return Err(tx.fail(fault)),
     };
-    let amounts = match matched(want, side.rin, side.rout) {
-        Ok(amounts) => amounts,
-        Err(why) => return Err(tx.refuse(why)),
-    };
-    send(
+    let amounts = tx.admit(matched(want, side.rin, side.rout))?;
+    pay(
         alloc,
         tx,
         &Asset::Token(want.a),
@@ -83,7 +79,7 @@ fn add_at(
         &side.pool,
         amounts.a,
     )?;
-    send(
+    pay(
         alloc,
         tx,
         &Asset::Token(want.b),
@@ -232,9 +228,9 @@ fn remove_at(
     }
     let side = match side_of(alloc, tx.book(), &want.a, &want.b, want.fee) {
         Ok(side) => side,
-        Err(fault) => return Err(fail(tx, fault)),
+        Err(fault) => return Err(tx.fail(fault)),
     };
-    send(
+    pay(
         alloc,
         tx,
         &Asset::Share(side.pool),

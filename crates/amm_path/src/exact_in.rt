@@ -7,7 +7,6 @@ ghost use Rattle.amm_path.specs.Plan.{exact_in_planned};
 ghost use Rattle.amm_model.specs.Sound.{IsSound};
 ghost use Rattle.amm_state.specs.Tx.{Meets};
 
-use crate::payments::fail;
 use crate::plan::{amounts_of, out_along};
 use crate::swaps::trade_along;
 use amm_model::{AmountList, Fault, Holder, Refusal, RoutePath, UserName};
@@ -63,7 +62,7 @@ fn swap_exact_in_planned(
     }
     let plan = match out_along(alloc, tx.book(), path, x) {
         Ok(plan) => plan,
-        Err(fault) => return Err(fail(tx, fault)),
+        Err(fault) => return Err(tx.fail(fault)),
     };
     let amounts = match amounts_of(alloc, &plan) {
         Ok(amounts) => amounts,

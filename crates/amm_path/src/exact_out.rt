@@ -7,7 +7,6 @@ ghost use Rattle.amm_path.specs.Plan.{exact_out_planned};
 ghost use Rattle.amm_model.specs.Sound.{IsSound};
 ghost use Rattle.amm_state.specs.Tx.{Meets};
 
-use crate::payments::fail;
 use crate::plan::{amounts_of, in_along};
 use crate::swaps::trade_along;
 use amm_model::{AmountList, Fault, Holder, Refusal, RoutePath, UserName};
@@ -63,7 +62,7 @@ fn swap_exact_out_planned(
     }
     let plan = match in_along(alloc, tx.book(), path, y) {
         Ok(plan) => plan,
-        Err(fault) => return Err(fail(tx, fault)),
+        Err(fault) => return Err(tx.fail(fault)),
     };
     if plan.input > max {
         return Err(tx.refuse(Refusal::ExcessiveInputAmount));

@@ -9,7 +9,6 @@
 mod add_remove;
 mod exact_in;
 mod exact_out;
-mod payments;
 mod plan;
 mod quotes;
 mod sides;

@@ -4,10 +4,9 @@ ghost use Rattle.amm_path.specs.Plan.{amounts_of, receiver_of, swap_trades, pay_
 ghost use Rattle.amm_model.specs.Sound.{IsSound};
 ghost use Rattle.amm_state.specs.Tx.{Meets};
 
-use crate::payments::send;
 use crate::plan::Plan;
 use amm_model::{AmountList, Asset, Fault, Holder, RoutePath, TokenName, Trade, UserName};
-use amm_pair::swap;
+use amm_pair::{pay, swap};
 use amm_state::{Mark, Tx};
 use std::alloc::Global;
 
@@ -61,7 +60,7 @@ fn pay_first(
     let Some((first, _)) = trades.split_first() else {
         return Ok(());
     };
-    send(alloc, tx, &Asset::Token(*from), actor, &first.pool, input)
+    pay(alloc, tx, &Asset::Token(*from), actor, &first.pool, input)
 }
 
 // Swaps with each pool, which pays to the next one, and at the end to the receiver.

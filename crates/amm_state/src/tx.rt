@@ -1,5 +1,5 @@
 //! A transaction over the ledger.
-ghost use Rattle.std.specs.Prelude.{◌≡◌, Ok, Err};
+ghost use Rattle.std.specs.Prelude.{◌≡◌, IfOk, Ok, Err};
 ghost use Rattle.amm_model.specs.declared.fault.Fault.TheVariants.{Refused};
 ghost use Rattle.amm_model.specs.declared.fault.Refusal.{Refusal as Code};
 ghost use Rattle.amm_model.specs.Sound.{IsAtRest};
@@ -102,6 +102,7 @@ impl Tx {
     pub fn admit<T>(&mut self, found: Result<T, Refusal>) -> Result<T, Fault>
         requires { self.old.mark ≡ Mark.Clean }
         ensures ok { (x : T) → found ≡ Ok x → (result ≡ Ok x) × (self.new ≡ self.old) }
+        ensures found { IfOk result (λ x. found ≡ Ok x) }
         ensures err { (why : Code) → found ≡ Err why → (result ≡ Err (Refused why)) × (self.new ≡ record self.old { mark = Mark.Refused why }) }
     {
         match found {

@@ -1,16 +1,16 @@
-//! Payments of the actor to a pool, and faults of readers told to the transaction.
+//! What a user pays a pool before an operation on it.
 ghost use Rattle.std.specs.Prelude.{◌≡◌, OnOk};
 ghost use Rattle.amm_names.specs.declared.holder.Holder.TheVariants as holders;
 ghost use Rattle.amm_model.specs.Postings.{transfer};
 ghost use Rattle.amm_model.specs.Sound.{IsSound};
-ghost use Rattle.amm_state.specs.Tx.{Meets, mark_of};
+ghost use Rattle.amm_state.specs.Tx.{Meets};
 
 use amm_model::{Asset, Fault, Holder, PoolName, UserName};
 use amm_state::{Mark, Tx};
 use std::alloc::Global;
 
-/// Sends units of an asset from the actor to the pool.
-pub(crate) fn send(
+/// Sends n units of an asset from a user to a pool. FUNDS exactly where he has fewer.
+pub fn pay(
     alloc: Global,
     tx: &mut Tx,
     asset: &Asset,
@@ -24,16 +24,4 @@ pub(crate) fn send(
     ensures sound { OnOk result (IsSound tx.new.present) }
 {
     tx.move_units(alloc, asset, &Holder::User(*actor), &Holder::Pool(*pool), n)
-}
-
-/// Ends the transaction by a fault of a reader.
-pub(crate) fn fail(tx: &mut Tx, fault: Fault) -> Fault
-    requires { tx.old.mark ≡ Mark.Clean }
-    ensures fault { result ≡ fault }
-    ensures after { tx.new ≡ record tx.old { mark = mark_of fault } }
-{
-    match fault {
-        Fault::Refused(why) => tx.refuse(why),
-        Fault::Memory => tx.lack(),
-    }
 }
