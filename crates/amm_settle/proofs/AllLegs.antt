@@ -1,18 +1,18 @@
 -- Legs whose pools are as they were quoted are performed one after the other.
-use Rattle.std.proofs.Common.{◌≡◌, ◌≢◌, ◌≤◌, ◌<◌, ◌+◌, ◌-◌, ℕ, zero, suc, Bool, true, false, List, [], ◌∷◌, length, Ok, get_or, refl, sym, ap, ◌∙◌, arith, subst}
-use Rattle.std.specs.Prelude.{All, AllPairs}
+use Rattle.std.proofs.Common.{◌≡◌, ◌≢◌, ◌≤◌, ◌<◌, ◌+◌, ℕ, suc, Bool, true, false, List, [], ◌∷◌, length, get_or, refl, sym, ◌∙◌, arith}
+use Rattle.std.specs.Prelude.{AllPairs}
 use Rattle.amm_names.specs.declared.holder.Holder.{Holder}
 use Rattle.amm_names.specs.declared.holder.Holder.TheVariants as holders
 use Rattle.amm_names.specs.declared.holder.Asset.{Asset}
 use Rattle.amm_names.specs.declared.holder.Asset.TheVariants as assets
 use Rattle.amm_model.specs.declared.problem.ProblemPool.{ProblemPool}
 use Rattle.amm_model.specs.declared.route.Leg.{Leg}
-use Rattle.amm_model.specs.Outcome.{◌>>=◌, ledger_only}
+use Rattle.amm_model.specs.Outcome.{ledger_only}
 use Rattle.amm_model.specs.Ledger.{Ledger, balance}
 use Rattle.amm_model.specs.Pools.{asset0, asset1}
 use Rattle.amm_model.specs.Routing.{IsBefore, no_pool}
 use Rattle.amm_names.specs.Names.{Name}
-use Rattle.amm_model.specs.Legs.{Inventory, IsLeg, AreLegs, leg_pool, token_in, token_out, after_leg, after_legs}
+use Rattle.amm_model.specs.Legs.{Inventory, AreLegs, leg_pool, token_in, token_out, after_leg, after_legs}
 use Rattle.amm_model.specs.Settlement.{perform_legs}
 use Rattle.amm_settle.proofs.Trading.{IsAsKept, IsSoundPool, IsTraded}
 use Rattle.amm_settle.proofs.OneLeg.{LegDone, leg_done, leg_tokens, pools_apart}

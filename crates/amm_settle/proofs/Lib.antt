@@ -5,3 +5,4 @@ pub mod OneSide
 pub mod OneLeg
 pub mod AllLegs
 pub mod Settled
+pub mod Kept

@@ -1,6 +1,6 @@
 -- A leg whose pool is as it was quoted is performed.
-use Rattle.std.proofs.Common.{◌≡◌, ◌≢◌, ◌≤◌, ◌<◌, ◌+◌, ◌-◌, ◌^◌, ℕ, Bool, true, false, cond, List, length, Ok, get_or, inl, inr, refl, sym, ap, ◌∙◌, arith, subst}
-use Rattle.std.specs.Prelude.{All, AllPairs, if◌then◌else◌}
+use Rattle.std.proofs.Common.{◌≡◌, ◌≢◌, ◌≤◌, ◌<◌, ◌+◌, ◌-◌, ◌^◌, ℕ, Bool, true, false, cond, List, length, get_or, inl, inr, refl, sym, ap, ◌∙◌, arith, subst}
+use Rattle.std.specs.Prelude.{AllPairs}
 use Rattle.std.specs.Str.{bytes_eq}
 use Rattle.std.proofs.lemmas.Bool.{cases_lt}
 use Rattle.std.proofs.lemmas.Slice.Eq.{bytes_eq-Decides}
@@ -11,13 +11,13 @@ use Rattle.amm_model.specs.declared.route.Leg.{Leg}
 use Rattle.amm_model.specs.Ledger.{Ledger, balance}
 use Rattle.amm_model.specs.Outcome.{ledger_only}
 use Rattle.amm_model.specs.Swap.{amount_out_of}
-use Rattle.amm_model.specs.Routing.{IsBefore, IsOpenProblem, OpenView, fee_of, no_pool}
+use Rattle.amm_model.specs.Routing.{IsBefore, fee_of, no_pool}
 use Rattle.amm_names.specs.Names.{Name}
 use Rattle.amm_model.specs.Legs.{Inventory, IsLeg, leg_pool, token_in, token_out, reserve_in, reserve_out, balance_in, after_leg}
 use Rattle.amm_model.specs.Settlement.{perform_leg}
 use Rattle.amm_model.proofs.Names.{same_name_itself}
-use Rattle.amm_model.proofs.Problems.{before-apart, fee_of-is, tokens_differ}
-use Rattle.amm_settle.proofs.Trading.{IsAsKept, IsSoundPool, IsTraded, TradeDone}
+use Rattle.amm_model.proofs.Problems.{before-apart}
+use Rattle.amm_settle.proofs.Trading.{IsAsKept, IsSoundPool, IsTraded}
 use Rattle.amm_settle.proofs.ZeroSide.{zero_done}
 use Rattle.amm_settle.proofs.OneSide.{one_done}
 

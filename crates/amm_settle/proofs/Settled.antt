@@ -1,8 +1,8 @@
 -- A quote whose pools are as they were pays what it says, and no leg of it is refused.
-use Rattle.std.proofs.Common.{◌≡◌, ◌≢◌, ◌≤◌, ◌<◌, ◌+◌, ◌-◌, ◌==◌, ◌&&◌, ◌||◌, not, ℕ, nat_lt, Bool, true, false, cond, List, [], ◌∷◌, length, map, Option, Some, None, Result, Ok, Err, get_or, ◌⊎◌, inl, inr, refl, sym, ap, ◌∙◌, arith, subst}
-use Rattle.std.specs.Prelude.{All, AllPairs, IsTrue}
-use Rattle.std.specs.List.{list_any, list_all}
+use Rattle.std.proofs.Common.{◌≡◌, ◌≢◌, ◌≤◌, ◌==◌, ◌&&◌, ◌||◌, not, ℕ, nat_lt, Bool, true, false, cond, List, [], ◌∷◌, map, Option, Some, None, Result, Ok, Err, get_or, inl, inr, refl, sym, ap, ◌∙◌, arith, subst}
+use Rattle.std.specs.Prelude.{All}
 use Rattle.std.specs.Str.{bytes_eq}
+use Rattle.std.proofs.lemmas.Bool.{le-ltb}
 use Rattle.std.proofs.lemmas.Bool.Decides.{nat_tests}
 use Rattle.std.proofs.lemmas.Slice.Eq.{bytes_eq-Decides}
 use Rattle.std.proofs.lemmas.List.Elements.{All-tail}
@@ -11,7 +11,6 @@ use Rattle.amm_names.specs.declared.holder.Holder.TheVariants as holders
 use Rattle.amm_names.specs.declared.holder.Asset.{Asset}
 use Rattle.amm_names.specs.declared.holder.Asset.TheVariants as assets
 use Rattle.amm_model.specs.declared.pair.PairRecord.{PairRecord}
-use Rattle.amm_model.specs.declared.problem.Part.{Part}
 use Rattle.amm_model.specs.declared.problem.ProblemPool.{ProblemPool}
 use Rattle.amm_model.specs.declared.route.Leg.{Leg}
 use Rattle.amm_model.specs.declared.route.Quote.{Quote}
@@ -25,14 +24,13 @@ use Rattle.amm_model.specs.Pools.{held0, held1}
 use Rattle.amm_model.specs.Routing.{IsProblem, amount_given, no_pool, open_view}
 use Rattle.amm_names.specs.Names.{Name}
 use Rattle.amm_model.specs.Legs.{Inventory, AreLegs, Delivers, leg_pool, after_leg}
-use Rattle.amm_model.specs.Settlement.{pools_of_legs, is_locked, is_as_kept, perform_legs, settle}
+use Rattle.amm_model.specs.Settlement.{IsDue, IsPaidAsQuoted, IsCodeOfSettling, pools_of_legs, is_locked, is_as_kept, any_locked, all_as_kept, perform_legs, settle}
 use Rattle.amm_model.proofs.Guards.{not_refused, same_answer}
 use Rattle.amm_model.proofs.Names.{same_name_itself}
 use Rattle.amm_model.proofs.Problems.{fee_of-is, tokens_differ}
 use Rattle.amm_state.specs.Tx.{TxView, Meets}
-use Rattle.amm_model.specs.Settlement.{IsPaidAsQuoted, IsCodeOfSettling}
 use Rattle.amm_settle.specs.Places.{AreThere}
-use Rattle.amm_settle.proofs.Trading.{IsAsKept, IsSoundPool}
+use Rattle.amm_settle.proofs.Trading.{IsAsKept}
 use Rattle.amm_settle.proofs.AllLegs.{AreAsKept, AreSoundPools, IsNoPoolOf, LegsDone, legs_done}
 
 -- A quote whose legs deliver its amount.
@@ -45,12 +43,6 @@ legs_there pools used held [] legal = tt
 legs_there pools used held (leg ∷ legs) legal = (legal.0.there, legs_there pools (leg.pool ∷ used) (after_leg pools held leg) legs legal.1)
 
 -- ---- the pools, by the tests
-
-abbrev any_locked : Ledger → List ProblemPool → Bool
-any_locked ledger pools = list_any (λ pool. is_locked (pair_of ledger.pairs pool.name)) pools
-
-abbrev all_as_kept : Ledger → List ProblemPool → Bool
-all_as_kept ledger pools = list_all (λ pool. is_as_kept ledger pool (pair_of ledger.pairs pool.name)) pools
 
 either : (a b : Bool) → (a || b) ≡ false → (a ≡ false) × (b ≡ false)
 either true b e = cc
@@ -169,6 +161,10 @@ not_true : (b : Bool) → not b ≡ false → b ≡ true
 not_true true e = refl
 not_true false e = cc
 
+-- nothing is both accepted and refused
+pub not_both : {A : Type 0} (x : A) (why : Refusal) → (◌≡◌ {A = Result A Refusal} (Ok x) (Err why)) → ⊥
+not_both x why e = cc
+
 -- no code of a leg ever comes
 pub settle_codes : (old : Ledger) (actor : Name) (quote : Quote) (deadline : ℕ) → IsDeliverable quote → (why : Refusal) → settle old actor quote deadline ≡ Err why → IsCodeOfSettling why
 unfolding settle
@@ -177,23 +173,34 @@ settle_codes old actor quote deadline fits why is =
     (nat_lt (balance old (assets.Token quote.problem.s) (holders.User actor)) quote.problem.d) _
     (λ free kept funded other e. (let d = legs_pay old actor quote fits free (not_true _ kept) funded in
     let f : (perform_legs old actor quote.problem.pools quote.route.legs >>= λ performed. Ok (record { ledger = performed.ledger; answer = quote.delivered })) ≡ Err other = e in
-    never_both _ other (rw (d.is) at f)))
+    not_both _ other (rw (d.is) at f)))
     why is
-  where
-    never_both : {A : Type 0} (x : A) (why : Refusal) → (◌≡◌ {A = Result A Refusal} (Ok x) (Err why)) → ⊥
-    never_both x why e = cc
 
--- what an accepted settlement pays
-pub settle_pays : (old : Ledger) (actor : Name) (quote : Quote) (deadline : ℕ) (made : Made ℕ) → IsDeliverable quote → settle old actor quote deadline ≡ Ok made → IsPaidAsQuoted old made.ledger actor quote
+-- An accepted settlement tells what the quote delivers, and pays it.
+pub settle_paid : (old : Ledger) (actor : Name) (quote : Quote) (deadline : ℕ) (made : Made ℕ) → IsDeliverable quote → settle old actor quote deadline ≡ Ok made
+    → (made.answer ≡ quote.delivered) × IsPaidAsQuoted old made.ledger actor quote
 unfolding settle
-settle_pays old actor quote deadline made fits is =
+settle_paid old actor quote deadline made fits is =
     let timely = not_refused (nat_lt deadline old.time) code.Expired _ made is in
     let free = not_refused (any_locked old (pools_of_legs quote)) code.Locked _ made timely.1 in
     let kept = not_refused (not (all_as_kept old (pools_of_legs quote))) code.Stale _ made free.1 in
     let funded = not_refused (nat_lt (balance old (assets.Token quote.problem.s) (holders.User actor)) quote.problem.d) code.Funds _ made kept.1 in
     let d = legs_pay old actor quote fits free.0 (not_true _ kept.0) funded.0 in
-    let e : d.ledger ≡ made.ledger = ap (λ (m : Made ℕ). m.ledger) (same_answer (record { ledger = d.ledger; answer = quote.delivered }) made (rw (d.is) at funded.1)) in
-    subst (λ (l : Ledger). IsPaidAsQuoted old l actor quote) e d.paid
+    let e = same_answer (record { ledger = d.ledger; answer = quote.delivered }) made (rw (d.is) at funded.1) in (
+      ap (λ (m : Made ℕ). m.answer) (sym e),
+      subst (λ (l : Ledger). IsPaidAsQuoted old l actor quote) (ap (λ (m : Made ℕ). m.ledger) e) d.paid,
+    )
+
+-- One that has to be accepted is.
+pub settle_due : (old : Ledger) (actor : Name) (quote : Quote) (deadline : ℕ) → IsDeliverable quote → IsDue old actor quote deadline
+    → (made : Made ℕ) × (settle old actor quote deadline ≡ Ok made) × (made.answer ≡ quote.delivered)
+unfolding settle
+settle_due old actor quote deadline fits due =
+    let timely : nat_lt deadline old.time ≡ false = le-ltb deadline old.time due.in_time in
+    let funded : nat_lt (balance old (assets.Token quote.problem.s) (holders.User actor)) quote.problem.d ≡ false =
+    le-ltb (balance old (assets.Token quote.problem.s) (holders.User actor)) quote.problem.d due.funds in
+    let d = legs_pay old actor quote fits due.free due.kept funded in
+    (record { ledger = d.ledger; answer = quote.delivered }, rw (timely, due.free, due.kept, funded, d.is) refl, refl)
 
 -- a call that met its definition was refused as the definition is
 pub refused_so : {A : Type 0} (old new : TxView) (answer : Result A Fault) (outcome : Outcome A) → Meets old new answer outcome → (why : Refusal) → answer ≡ Err (faults.Refused why) → outcome ≡ Err why

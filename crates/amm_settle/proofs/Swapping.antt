@@ -1,17 +1,15 @@
 -- A swap whose tests pass is made, and what it leaves.
-use Rattle.std.proofs.Common.{◌≡◌, ◌≢◌, ◌≤◌, ◌<◌, ◌+◌, ◌-◌, ℕ, nat_lt, nat_le, ◌==◌, ◌&&◌, ◌||◌, not, Bool, true, false, List, Some, Ok, inl, inr, refl, sym, ap, ◌∙◌, arith, subst}
+use Rattle.std.proofs.Common.{◌≡◌, ◌≢◌, ◌≤◌, ◌<◌, ◌+◌, ◌-◌, ℕ, nat_lt, nat_le, ◌==◌, ◌&&◌, ◌||◌, true, false, List, Some, Ok, inl, refl, sym, ◌∙◌, arith, subst}
 use Rattle.std.proofs.lemmas.Bool.{le-ltb}
 use Rattle.std.proofs.lemmas.Bool.Decides.{nat_tests}
 use Rattle.amm_names.specs.declared.holder.Holder.{Holder}
 use Rattle.amm_names.specs.declared.holder.Holder.TheVariants as holders
-use Rattle.amm_names.specs.declared.holder.Asset.TheVariants as assets
 use Rattle.amm_names.specs.Pools.{pool_token0, pool_token1, pool_fee}
 use Rattle.amm_model.specs.declared.pair.PairRecord.{PairRecord}
 use Rattle.amm_model.specs.declared.pair.SwapReceipt.{SwapReceipt}
 use Rattle.amm_model.specs.declared.limits.TheConstants.{RESERVE_LIMIT}
-use Rattle.amm_model.specs.Outcome.{◌>>=◌, refuse_if, Made, ledger_only}
+use Rattle.amm_model.specs.Outcome.{Made, ledger_only}
 use Rattle.amm_model.specs.Ledger.{Ledger, balance, with_transfer, pair_of, with_pair}
-use Rattle.amm_model.specs.Postings.{transfer}
 use Rattle.amm_model.specs.Pools.{asset0, asset1, held0, held1}
 use Rattle.amm_model.specs.Swap.{admits}
 use Rattle.amm_model.specs.Operations.{renewed_record, updated_record_to, unlocked_pair, send_both, lending_pair, came_to, settle_swap, swap}

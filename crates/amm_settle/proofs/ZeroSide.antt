@@ -1,31 +1,20 @@
 -- A trade that puts in token 0 of a pool as it was quoted is made.
-use Rattle.std.proofs.Common.{◌≡◌, ◌≢◌, ◌≤◌, ◌<◌, ◌+◌, ◌-◌, ◌^◌, ℕ, nat_lt, nat_le, ◌==◌, ◌&&◌, ◌||◌, Bool, true, false, List, Some, Ok, IsSome, inl, inr, ◌⊎◌, refl, sym, ap, ◌∙◌, arith, subst}
-use Rattle.std.specs.Prelude.{All, IsTrue, if◌then◌else◌}
+use Rattle.std.proofs.Common.{◌≡◌, ◌≢◌, ◌≤◌, ◌<◌, ◌+◌, ◌-◌, ◌^◌, ℕ, true, inl, inr, refl, sym, ap, ◌∙◌, arith, subst}
 use Rattle.std.proofs.lemmas.Bool.Decides.{nat_tests}
 use Rattle.amm_names.specs.declared.holder.Holder.{Holder}
 use Rattle.amm_names.specs.declared.holder.Holder.TheVariants as holders
 use Rattle.amm_names.specs.declared.holder.Asset.{Asset}
-use Rattle.amm_names.specs.declared.holder.Asset.TheVariants as assets
-use Rattle.amm_names.specs.Pools.{pool_token0, pool_token1, pool_fee}
-use Rattle.amm_model.specs.declared.pair.PairRecord.{PairRecord}
+use Rattle.amm_names.specs.Pools.{pool_token0, pool_token1}
 use Rattle.amm_model.specs.declared.problem.ProblemPool.{ProblemPool}
-use Rattle.amm_model.specs.declared.route.Leg.{Leg}
-use Rattle.amm_model.specs.declared.limits.TheConstants.{RESERVE_LIMIT}
-use Rattle.amm_model.specs.Outcome.{◌>>=◌, Made, ledger_only}
-use Rattle.amm_model.specs.Ledger.{Ledger, Pairs, balance, with_transfer, pair_of, set_pair, with_pair}
-use Rattle.amm_model.specs.Postings.{transfer}
-use Rattle.amm_model.specs.Pools.{asset0, asset1, held0, held1}
-use Rattle.amm_model.specs.Swap.{Admits, IsFee, admits, amount_out_of}
-use Rattle.amm_model.specs.Routing.{HasReserves, HasBalances, fee_of, token0_of, token1_of}
+use Rattle.amm_model.specs.Ledger.{Ledger, Pairs, balance, with_transfer, pair_of}
+use Rattle.amm_model.specs.Pools.{asset0, asset1, held1}
+use Rattle.amm_model.specs.Swap.{Admits, admits, amount_out_of}
+use Rattle.amm_model.specs.Routing.{fee_of, token0_of, token1_of}
 use Rattle.amm_names.specs.Names.{Name}
-use Rattle.amm_model.specs.Legs.{IsLeg, leg_pool, token_in, token_out, reserve_in, reserve_out, balance_in}
-use Rattle.amm_model.specs.Operations.{swap}
-use Rattle.amm_model.specs.Settlement.{perform_leg}
-use Rattle.amm_model.proofs.Names.{some_there, pair_of-set_other}
 use Rattle.amm_model.proofs.Soundness.{tokens_apart}
-use Rattle.amm_model.proofs.Swap.{fee_range, amount_out-lt, admits_turned}
+use Rattle.amm_model.proofs.Swap.{fee_range, amount_out-lt}
 use Rattle.amm_model.proofs.Moved.{Moved, moved_moved, transfer_made}
-use Rattle.amm_settle.proofs.Swapping.{CanSwap, IsSwapped, SwapDone, swap_done}
+use Rattle.amm_settle.proofs.Swapping.{CanSwap, SwapDone, swap_done}
 use Rattle.amm_model.proofs.Rule.{rule_kept}
 use Rattle.amm_settle.proofs.Trading.{IsAsKept, IsSoundPool, IsTraded, TradeDone, untouched, other_pairs}
 

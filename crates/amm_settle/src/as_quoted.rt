@@ -1,11 +1,10 @@
 //! Whether the pools of a quote's legs are free, and as they were quoted.
 ghost use Rattle.std.specs.Prelude.{◌≡◌, map};
-ghost use Rattle.std.specs.List.{list_all, list_any};
 ghost use Rattle.amm_names.specs.declared.holder.Asset.TheVariants as assets;
 ghost use Rattle.amm_names.specs.declared.holder.Holder.TheVariants as holders;
 ghost use Rattle.amm_model.specs.Ledger.{balance, pair_of};
 ghost use Rattle.amm_model.specs.Legs.{leg_pool};
-ghost use Rattle.amm_model.specs.Settlement.{is_as_kept, is_locked};
+ghost use Rattle.amm_model.specs.Settlement.{all_as_kept, any_locked, is_as_kept, is_locked};
 ghost use Rattle.amm_settle.specs.Places.{AreThere};
 
 use amm_model::{Asset, Holder, Leg, PoolName, ProblemPool, TokenName};
@@ -14,7 +13,7 @@ use amm_state::Book;
 /// Whether the pair of some leg's pool is locked.
 pub(crate) fn any_locked(book: &Book, pools: &[ProblemPool], legs: &[Leg]) -> bool
     requires there { AreThere pools.now legs.now }
-    ensures { result ≡ list_any (λ pool. is_locked (pair_of book.now.ledger.pairs pool.name)) (map (leg_pool pools.now) legs.now) }
+    ensures { result ≡ any_locked book.now.ledger (map (leg_pool pools.now) legs.now) }
 {
     let Some((leg, later)) = legs.split_first() else {
         return false;
@@ -37,7 +36,7 @@ fn is_locked(book: &Book, pool: &ProblemPool) -> bool
 /// Whether the pool of each leg has the reserves and balances that were quoted.
 pub(crate) fn all_as_kept(book: &Book, pools: &[ProblemPool], legs: &[Leg]) -> bool
     requires there { AreThere pools.now legs.now }
-    ensures { result ≡ list_all (λ pool. is_as_kept book.now.ledger pool (pair_of book.now.ledger.pairs pool.name)) (map (leg_pool pools.now) legs.now) }
+    ensures { result ≡ all_as_kept book.now.ledger (map (leg_pool pools.now) legs.now) }
 {
     let Some((leg, later)) = legs.split_first() else {
         return true;

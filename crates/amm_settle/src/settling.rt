@@ -1,13 +1,12 @@
 //! A quote, settled.
-ghost use Rattle.std.specs.Prelude.{◌≡◌, Err, OnOk};
+ghost use Rattle.std.specs.Prelude.{◌≡◌, Err, IfOk, OnOk};
 ghost use Rattle.amm_model.specs.declared.fault.Fault.TheVariants.{Refused};
 ghost use Rattle.amm_model.specs.declared.fault.Refusal.{Refusal as Code};
 ghost use Rattle.amm_model.specs.Legs.{Delivers};
 ghost use Rattle.amm_model.specs.Routing.{open_view};
-ghost use Rattle.amm_model.specs.Settlement.{settle};
+ghost use Rattle.amm_model.specs.Settlement.{IsCodeOfSettling, IsDue, IsPaidAsQuoted, settle};
 ghost use Rattle.amm_model.specs.Sound.{IsSound};
 ghost use Rattle.amm_state.specs.Tx.{Meets};
-ghost use Rattle.amm_model.specs.Settlement.{IsCodeOfSettling, IsPaidAsQuoted};
 ghost use Rattle.amm_settle.specs.Places.{AreThere};
 
 use crate::as_quoted::{all_as_kept, any_locked};
@@ -20,7 +19,8 @@ use std::alloc::Global;
 ///
 /// Refused, in this order: EXPIRED, where the time is past the deadline; LOCKED, where a pool of
 /// its legs is lent; STALE, where one has not the reserves and balances that were quoted; FUNDS,
-/// where the user has less than the quote was asked for. No code of a leg ever comes.
+/// where the user has less than the quote was asked for. No code of a leg ever comes, and none at
+/// all where the settlement is due.
 pub fn settle(
     alloc: Global,
     tx: &mut Tx,
@@ -33,7 +33,9 @@ pub fn settle(
     requires delivers { Delivers (open_view quote.now.problem) quote.now.route.legs quote.now.delivered }
     ensures meets { Meets tx.old tx.new result (settle tx.old.present actor.now quote.now deadline) }
     ensures sound { OnOk result (IsSound tx.new.present) }
+    ensures told { IfOk result (λ delivered. delivered ≡ quote.now.delivered) }
     ensures paid { OnOk result (IsPaidAsQuoted tx.old.present tx.new.present actor.now quote.now) }
+    ensures due { (why : Code) → result ≡ Err (Refused why) → ¬ IsDue tx.old.present actor.now quote.now deadline }
     ensures codes { (why : Code) → result ≡ Err (Refused why) → IsCodeOfSettling why }
 {
     let pools = quote.problem.pools();
