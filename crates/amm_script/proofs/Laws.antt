@@ -6,7 +6,11 @@ use Rattle.amm_names.specs.declared.holder.Holder.TheVariants as holders
 use Rattle.amm_names.specs.declared.holder.Asset.{Asset}
 use Rattle.amm_model.specs.declared.reply.Answer.{Answer}
 use Rattle.amm_model.specs.declared.reply.Answer.TheVariants as answers
-use Rattle.amm_model.specs.Ledger.{Ledger}
+use Rattle.std.specs.Prelude.{ok_or}
+use Rattle.amm_model.specs.declared.fault.Refusal.TheVariants as code
+use Rattle.amm_model.specs.declared.route.Quote.{Quote}
+use Rattle.amm_model.specs.Ledger.{Ledger, quote_of}
+use Rattle.amm_model.specs.Settlement.{settle}
 use Rattle.amm_model.specs.Outcome.{Made, Outcome}
 use Rattle.amm_model.specs.Postings.{transfer}
 use Rattle.amm_model.specs.Operations.{mint, burn, swap, skim, sync, lend, give_back}
@@ -27,6 +31,7 @@ use Rattle.amm_state.specs.Tx.{TxView, Accepts, Meets}
 use Rattle.amm_state.proofs.Meets.{on_ok}
 use Rattle.amm_model.proofs.Laters.{Kept, kept_same, kept_then, transfer_kept}
 use Rattle.amm_path.proofs.Kept.{exact_in_kept, exact_out_kept, add_kept, remove_kept}
+use Rattle.amm_settle.proofs.Kept.{settle_kept}
 use Rattle.amm_factory.proofs.Creation.{create_kept}
 use Rattle.amm_pair.proofs.Tokens.{tokens_differ}
 use Rattle.amm_pair.proofs.Operations.{sync_kept, skim_kept}
@@ -72,7 +77,9 @@ mutual
       answered old answers.SwapIn (exact_in old actor path x least to deadline) made (λ done e. exact_in_kept old actor path x least to deadline done e) is
   step_kept (view.swap_out path y most to deadline) old actor made names fits is =
       answered old answers.SwapOut (exact_out old actor path y most to deadline) made (λ done e. exact_out_kept old actor path y most to deadline done e) is
-  step_kept (view.settle quote deadline) old actor made names fits is = cc
+  step_kept (view.settle number deadline) old actor made names fits is =
+      let quote = given (ok_or (quote_of old.quotes number) code.NoQuote) _ made is in
+      answered old answers.Settle (settle old actor quote.value deadline) made (λ done e. settle_kept old actor quote.value deadline done e) quote.after
 
   -- so do steps one after another
   pub steps_kept : (ms : Moves) (old : Ledger) (actor : List ℕ) (made : Made (Unit {0})) → HaveNames ms → FitMoves ms → meaning_of_all old actor ms ≡ Ok made → Kept old made.ledger
@@ -106,3 +113,6 @@ module _ (old new : TxView) where
   pub swap_out_later : (actor : List ℕ) (path : RoutePath) (y most : ℕ) (to : Holder) (deadline : ℕ) (amounts : List ℕ) → Accepts old new amounts (exact_out old.present actor path y most to deadline)
       → Later old.present new.present
   swap_out_later actor path y most to deadline amounts accepted = (exact_out_kept old.present actor path y most to deadline (made_by amounts) accepted.gives).later
+
+  pub settle_later : (actor : List ℕ) (quote : Quote) (deadline delivered : ℕ) → Accepts old new delivered (settle old.present actor quote deadline) → Later old.present new.present
+  settle_later actor quote deadline delivered accepted = (settle_kept old.present actor quote deadline (made_by delivered) accepted.gives).later

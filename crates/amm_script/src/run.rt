@@ -5,19 +5,22 @@ ghost use Rattle.amm_model.specs.CommandView.{move_of_step, moves_of_steps};
 ghost use Rattle.amm_model.specs.Fits.{FitsMove, FitMoves};
 ghost use Rattle.amm_model.specs.Later.{Later};
 ghost use Rattle.amm_model.specs.Meaning.{meaning, meaning_of_all};
+ghost use Rattle.amm_model.specs.Runs.{SettledBy};
 ghost use Rattle.amm_model.specs.Sound.{IsSound};
 ghost use Rattle.amm_state.specs.Tx.{Meets};
+ghost use Rattle.amm_script.specs.Told.{OfToldAnswer};
 
 use crate::asset::send;
+use crate::settlement::settle_quote;
 use amm_factory::create;
-use amm_model::{Answer, Fault, Holder, PoolName, Refusal, Step, UserName};
+use amm_model::{Answer, Fault, Holder, PoolName, Step, UserName};
 use amm_pair::{abandon_loan, burn, close_loan, mint, open_loan, skim, swap, sync};
 use amm_path::{add, remove, swap_exact_in, swap_exact_out};
 use amm_state::{Mark, Tx};
 use std::alloc::Global;
 
-/// Does one step of the actor, whose numbers, fees and lengths are within their limits. A kind that
-/// is not answered yet is refused.
+/// Does one step of the actor, whose numbers, fees and lengths are within their limits. A
+/// settlement that is due is not refused, and an accepted one pays its quote.
 #[cycle(script)]
 #[tactic(auto, unfolding(amm_model::specs::Meaning::meaning), using(crate::proofs::Steps::inner_fit, crate::proofs::Laws::transfer_later, crate::proofs::Laws::sync_later, crate::proofs::Laws::mint_later, crate::proofs::Laws::swap_later, crate::proofs::Laws::swap_in_later, crate::proofs::Laws::swap_out_later))]
 pub fn run_step(alloc: Global, tx: &mut Tx, actor: &UserName, step: &Step) -> Result<Answer, Fault>
@@ -27,6 +30,7 @@ pub fn run_step(alloc: Global, tx: &mut Tx, actor: &UserName, step: &Step) -> Re
     ensures meets { Meets tx.old tx.new result (meaning tx.old.present actor.now (move_of_step step.now)) }
     ensures sound { OnOk result (IsSound tx.new.present) }
     ensures later { OnOk result (Later tx.old.present tx.new.present) }
+    ensures settled { OfToldAnswer result (λ answer. SettledBy (view.act actor.now (move_of_step step.now)) answer tx.old.present tx.new.present) }
 {
     match step {
         Step::Transfer { asset, to, n } => send(alloc, tx, actor, asset, to, *n),
@@ -79,7 +83,7 @@ pub fn run_step(alloc: Global, tx: &mut Tx, actor: &UserName, step: &Step) -> Re
         } => Ok(Answer::SwapOut {
             amounts: swap_exact_out(alloc, tx, actor, path, *y, *max, to, *deadline)?,
         }),
-        Step::Settle { .. } => Err(tx.refuse(Refusal::BadCommand)),
+        Step::Settle { quote, deadline } => settle_quote(alloc, tx, actor, *quote, *deadline),
     }
 }
 

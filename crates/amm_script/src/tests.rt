@@ -135,15 +135,27 @@ fn pays_back(names: &Names, n: u64) -> Step
     }
 }
 
-// A step that syncs the pool, where that is asked for, or does nothing.
-fn first_step(names: &Names, syncs: bool) -> Step
+// What the first step of a loan does.
+#[derive(Clone, Copy, Debug, PartialEq, Eq, Drop)]
+enum First {
+    Nothing,
+    Sync,
+    // It settles the first quote, which the ledger does not keep.
+    Settle,
+}
+
+fn first_step(names: &Names, first: First) -> Step
     ensures { FitsMove (move_of_step result) }
 {
     let pool = names.pool;
-    if syncs {
-        return Step::Sync { pool };
+    match first {
+        First::Nothing => pays_back(names, 0),
+        First::Sync => Step::Sync { pool },
+        First::Settle => Step::Settle {
+            quote: 1,
+            deadline: 0,
+        },
     }
-    pays_back(names, 0)
 }
 
 fn two_steps(alloc: Global, first: Step, second: Step) -> Result<Vec<Step>, Fault>
@@ -157,13 +169,13 @@ fn two_steps(alloc: Global, first: Step, second: Step) -> Result<Vec<Step>, Faul
     }
 }
 
-// A loan of ETH whose steps are to sync the pool, where that is asked for, and to pay back n.
+// A loan of ETH with a first step, and one that pays back n.
 fn lend(
     alloc: Global,
     tx: &mut Tx,
     names: &Names,
     out0: u64,
-    syncs: bool,
+    first: First,
     n: u64,
 ) -> Result<Answer, Fault>
     requires clean { tx.old.mark ≡ Mark.Clean }
@@ -172,7 +184,7 @@ fn lend(
     requires amount { n ≤ AMOUNT_LIMIT }
 {
     let pool = names.pool;
-    let steps = two_steps(alloc, first_step(names, syncs), pays_back(names, n))?;
+    let steps = two_steps(alloc, first_step(names, first), pays_back(names, n))?;
     let step = Step::Flash {
         pool,
         out0,
@@ -188,14 +200,14 @@ fn lend_script(
     tx: &mut Tx,
     names: &Names,
     out0: u64,
-    syncs: bool,
+    first: First,
     n: u64,
 ) -> Result<Answer, Fault>
     requires clean { tx.old.mark ≡ Mark.Clean }
     requires sound { IsSound tx.old.present }
     requires amount { n ≤ AMOUNT_LIMIT }
 {
-    let steps = two_steps(alloc, first_step(names, syncs), pays_back(names, n))?;
+    let steps = two_steps(alloc, first_step(names, first), pays_back(names, n))?;
     let mut script = ScriptBorrower {
         actor: names.alice,
         steps,
@@ -208,15 +220,15 @@ fn answers(
     alloc: Global,
     names: &Names,
     out0: u64,
-    syncs: bool,
+    first: First,
     n: u64,
 ) -> (Result<Answer, Fault>, Result<Answer, Fault>)
     requires lent { out0 ≤ AMOUNT_LIMIT }
     requires amount { n ≤ AMOUNT_LIMIT }
 {
     (
-        answer(alloc, names, false, out0, syncs, n),
-        answer(alloc, names, true, out0, syncs, n),
+        answer(alloc, names, false, out0, first, n),
+        answer(alloc, names, true, out0, first, n),
     )
 }
 
@@ -225,7 +237,7 @@ fn answer(
     names: &Names,
     by_script: bool,
     out0: u64,
-    syncs: bool,
+    first: First,
     n: u64,
 ) -> Result<Answer, Fault>
     requires lent { out0 ≤ AMOUNT_LIMIT }
@@ -236,8 +248,8 @@ fn answer(
     };
     let mut tx = Tx::begin(state);
     let answer = match open_pool(alloc, &mut tx, names) {
-        Ok(()) if by_script => lend_script(alloc, &mut tx, names, out0, syncs, n),
-        Ok(()) => lend(alloc, &mut tx, names, out0, syncs, n),
+        Ok(()) if by_script => lend_script(alloc, &mut tx, names, out0, first, n),
+        Ok(()) => lend(alloc, &mut tx, names, out0, first, n),
         Err(fault) => Err(fault),
     };
     let _ = tx.rollback();
@@ -264,19 +276,25 @@ fn loans_by_steps_and_scripts(rt: HostRuntime) -> Result<(), Fail> {
         out0: 1000,
         out1: 0,
     };
-    let (by_step, by_script) = answers(alloc, &names, 1000, false, 1004);
+    let (by_step, by_script) = answers(alloc, &names, 1000, First::Nothing, 1004);
     assert!(rt; is_paid(&by_step, &paid), "by a step");
     assert!(rt; is_paid(&by_script, &paid), "by a script");
-    for (out0, syncs, n, why) in [
-        (0, false, 1004, Refusal::InsufficientOutputAmount),
-        (1_000_000, false, 1004, Refusal::InsufficientLiquidity),
-        (1000, true, 1004, Refusal::Locked),
-        (1000, false, 1_001_001 + MORE, Refusal::Funds),
-        (1000, false, 0, Refusal::InsufficientInputAmount),
-        (1000, false, 1003, Refusal::K),
-        (1000, false, MORE - 1, Refusal::Overflow),
+    for (out0, first, n, why) in [
+        (0, First::Nothing, 1004, Refusal::InsufficientOutputAmount),
+        (
+            1_000_000,
+            First::Nothing,
+            1004,
+            Refusal::InsufficientLiquidity,
+        ),
+        (1000, First::Sync, 1004, Refusal::Locked),
+        (1000, First::Settle, 1004, Refusal::NoQuote),
+        (1000, First::Nothing, 1_001_001 + MORE, Refusal::Funds),
+        (1000, First::Nothing, 0, Refusal::InsufficientInputAmount),
+        (1000, First::Nothing, 1003, Refusal::K),
+        (1000, First::Nothing, MORE - 1, Refusal::Overflow),
     ] {
-        let (by_step, by_script) = answers(alloc, &names, out0, syncs, n);
+        let (by_step, by_script) = answers(alloc, &names, out0, first, n);
         assert_eq!(rt; by_step.err(), Some(Fault::Refused(why)), "by a step, {n}");
         assert_eq!(rt;
             by_script.err(),

@@ -1,16 +1,14 @@
 //! The legs of a quote, performed one after the other.
 ghost use Rattle.std.specs.Prelude.{◌≡◌, ◌<◌, OnOk, length};
 ghost use Rattle.amm_names.specs.declared.holder.Asset.TheVariants as assets;
-ghost use Rattle.amm_names.specs.declared.holder.Holder.TheVariants as holders;
-ghost use Rattle.amm_model.specs.Postings.{transfer};
 ghost use Rattle.amm_model.specs.Legs.{token_in};
 ghost use Rattle.amm_model.specs.Settlement.{perform_leg, perform_legs};
 ghost use Rattle.amm_model.specs.Sound.{IsSound};
 ghost use Rattle.amm_state.specs.Tx.{Meets};
 ghost use Rattle.amm_settle.specs.Places.{AreThere};
 
-use amm_model::{Asset, Fault, Holder, Leg, PoolName, ProblemPool, UserName};
-use amm_pair::swap;
+use amm_model::{Asset, Fault, Holder, Leg, ProblemPool, UserName};
+use amm_pair::{pay, swap};
 use amm_state::{Mark, Tx};
 use std::alloc::Global;
 
@@ -58,23 +56,6 @@ fn perform_leg(
     let out1 = if leg.zero_in { leg.output } else { 0 };
     swap(alloc, tx, pool, out0, out1, &Holder::User(*actor))?;
     Ok(())
-}
-
-// Pays the pool, whose ledger stays sound.
-fn pay(
-    alloc: Global,
-    tx: &mut Tx,
-    asset: &Asset,
-    actor: &UserName,
-    pool: &PoolName,
-    n: u64,
-) -> Result<(), Fault>
-    requires clean { tx.old.mark ≡ Mark.Clean }
-    requires sound { IsSound tx.old.present }
-    ensures meets { Meets tx.old tx.new result (transfer tx.old.present asset.now (holders.User actor.now) (holders.Pool pool.now) n) }
-    ensures sound { OnOk result (IsSound tx.new.present) }
-{
-    tx.move_units(alloc, asset, &Holder::User(*actor), &Holder::Pool(*pool), n)
 }
 
 // The token that a leg puts in.
