@@ -2,3 +2,4 @@ pub mod Worths
 pub mod Numbers
 pub mod Steps
 pub mod Duality
+pub mod Skips

@@ -53,7 +53,7 @@ mixed-all tokens old new pools i worths past are =
     ext_get_or 0 worths (map (pool_worth tokens new) pools) (are.many ∙ sym (length-map pools (pool_worth tokens new)))
     (λ k below. are.done k (omega (arith, are.many)) ∙ sym (get_or-map (pool_worth tokens new) pools k no_pool 0 (omega (arith, are.many))))
 
-place-at : (tokens : List Name) (pools : List ProblemPool) (places : List TokenPlaces) (i : ℕ) → i < length pools → places ≡ map (places_of tokens) pools →
+pub place-at : (tokens : List Name) (pools : List ProblemPool) (places : List TokenPlaces) (i : ℕ) → i < length pools → places ≡ map (places_of tokens) pools →
     get_or places i no_places ≡ places_of tokens (get_or pools i no_pool)
 place-at tokens pools places i below are = ap (λ (ps : List TokenPlaces). get_or ps i no_places) are ∙ get_or-map (places_of tokens) pools i no_pool no_places below
 
@@ -128,3 +128,8 @@ zero-at tokens pools places i below are = ap (λ (p : TokenPlaces). p.zero) (pla
 pub one-at : (tokens : List Name) (pools : List ProblemPool) (places : List TokenPlaces) (i : ℕ) → i < length pools → places ≡ map (places_of tokens) pools →
     (get_or places i no_places).one ≡ token_place tokens (token1_of (get_or pools i no_pool))
 one-at tokens pools places i below are = ap (λ (p : TokenPlaces). p.one) (place-at tokens pools places i below are)
+
+-- the same, of worths that are kept
+pub kept-worth-lt : (problem : OpenView) (prices worths : List ℕ) (k : ℕ) → IsOpenProblem problem → ArePrices prices → length prices ≡ length problem.tokens →
+    worths ≡ map (pool_worth problem.tokens prices) problem.pools → k < length worths → get_or worths k 0 < 2 ^ 99
+kept-worth-lt problem prices worths k sound ranges many are below = each-worth-lt problem prices worths k (sound, ranges, many, are) below

@@ -11,6 +11,7 @@ mod changes;
 mod descent;
 mod lower;
 mod moves;
+mod nexts;
 mod plan;
 mod running;
 mod settling;

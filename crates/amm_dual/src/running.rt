@@ -1,10 +1,12 @@
 //! A problem and prices that change one by one, with the worth of each pool at them.
 ghost use Rattle.std.specs.Prelude.{◌≡◌, ◌≢◌, ℕ, List, ◌+◌, ◌*◌, ◌/◌, ◌<◌, ◌≤◌, ◌^◌, length, map, slice_set, slice_index, sum_by, IfOk};
-ghost use Rattle.amm_model.specs.Routing.{ArePrices, HasReserves, IsOpenProblem, fee_of};
+ghost use Rattle.amm_model.specs.Routing.{ArePrices, HasReserves, IsOpenProblem, fee_of, places_of};
 ghost use Rattle.amm_model.specs.Bound.{bound_of, part_value, pool_worth, worth_of};
-ghost use Rattle.amm_dual.specs.Running.{RunningView, after};
+ghost use Rattle.amm_dual.specs.Nexts.{AreNexts, IsNext, IsNextOfBoth};
+ghost use Rattle.amm_dual.specs.Running.{IsBalance, RunningView, after};
 
 use crate::changes::{Change, Changes, price_after, worth_after};
+use crate::nexts::{Nexts, nexts_of};
 use amm_bound::{parts_value, worth_at};
 use amm_model::{Memory, OpenProblem, Prices, ProblemPool, TokenPlaces};
 use std::alloc::Global;
@@ -16,12 +18,22 @@ pub struct Running<'p> {
     problem: &'p OpenProblem,
     prices: Vec<u64>,
     worths: Vec<u128>,
+    total: u128,
+    nexts: Vec<Nexts>,
+}
+
+// What some pools are worth after changes, and what they were worth before.
+#[derive(Clone, Copy, Drop)]
+struct Balance {
+    gained: u128,
+    lost: u128,
 }
 
 impl<'p> Model for Running<'p> {
-    ghost use Rattle.std.specs.Prelude.{◌≡◌, length, map};
+    ghost use Rattle.std.specs.Prelude.{◌≡◌, ◌≤◌, ◌^◌, length, map, sum_by};
     ghost use Rattle.amm_model.specs.Routing.{ArePrices, IsOpenProblem};
     ghost use Rattle.amm_model.specs.Bound.{pool_worth};
+    ghost use Rattle.amm_dual.specs.Nexts.{AreNexts};
     ghost use Rattle.amm_dual.specs.Running.{RunningView};
 
     ghost Value = { RunningView };
@@ -30,7 +42,8 @@ impl<'p> Model for Running<'p> {
 
     ghost invariant = { λ r.
         IsOpenProblem r.problem.now × ArePrices r.prices.items × (length r.prices.items ≡ length r.problem.now.tokens)
-        × (r.worths.items ≡ map (pool_worth r.problem.now.tokens r.prices.items) r.problem.now.pools) };
+        × (r.worths.items ≡ map (pool_worth r.problem.now.tokens r.prices.items) r.problem.now.pools)
+        × (r.total ≡ sum_by (pool_worth r.problem.now.tokens r.prices.items) r.problem.now.pools) × (r.total ≤ 2 ^ 107) × AreNexts r.problem.now r.nexts.items };
 }
 
 impl<'p> Running<'p> {
@@ -46,10 +59,13 @@ impl<'p> Running<'p> {
     {
         let list = prices.as_slice();
         let worths = worths_of(alloc, problem, list)?;
+        let total = total_of(problem, list, &worths);
         Ok(Running {
             problem,
             prices: Vec::from_slice(alloc, list)?,
             worths,
+            total,
+            nexts: nexts_of(alloc, problem)?,
         })
     }
 
@@ -67,6 +83,7 @@ impl<'p> Running<'p> {
         for i in 0..pools.len() {
             self.worths[i] = refreshed(self.worths[i], &pools[i], places[i], token, &self.prices);
         }
+        self.total = total_of(problem, &self.prices, &self.worths);
     }
 
     /// The problem.
@@ -94,10 +111,7 @@ impl<'p> Running<'p> {
         ensures below { result < 2 ^ 108 }
     {
         let target = self.problem.target();
-        let mut value = parts_value(self.problem, &self.prices);
-        for w in &self.worths {
-            value += *w;
-        }
+        let value = parts_value(self.problem, &self.prices) + self.total;
         value / self.prices[target] as u128
     }
 
@@ -164,13 +178,54 @@ impl<'p> Running<'p> {
         ensures value { result ≡ sum_by (pool_worth self.now.problem.tokens (after self.now.prices changes)) self.now.problem.pools }
         ensures below { result < 2 ^ 107 + 1 }
     {
+        let count = self.problem.pools().len();
+        let mut balance = Balance { gained: 0, lost: 0 };
+        let mut i = self.next_changed(changes, 0);
+        while i < count {
+            balance = self.balance_after(changes, i, balance);
+            i = self.next_changed(changes, i + 1);
+        }
+        self.total + balance.gained - balance.lost
+    }
+
+    // The balance with that of the pool at a place.
+    fn balance_after(&self, changes: Changes, i: usize, balance: Balance) -> Balance
+        requires ranges { ArePrices (after self.now.prices changes) }
+        requires within { i < length self.now.problem.pools }
+        requires before { IsBalance self.now.problem self.now.prices changes i balance }
+        ensures { IsBalance self.now.problem self.now.prices changes (i + 1) result }
+    {
         let pools = self.problem.pools();
         let places = self.problem.places();
-        let mut value: u128 = 0;
-        for i in 0..pools.len() {
-            value += worth_after(self.worths[i], &pools[i], places[i], &self.prices, changes);
+        let old = self.worths[i];
+        let new = worth_after(old, &pools[i], places[i], &self.prices, changes);
+        Balance {
+            gained: balance.gained + new,
+            lost: balance.lost + old,
         }
-        value
+    }
+
+    // The first of the pools from a place on that has a changed token; their number, where none
+    // has one.
+    fn next_changed(&self, changes: Changes, i: usize) -> usize
+        requires { i ≤ length self.now.problem.pools }
+        ensures { IsNextOfBoth (map (places_of self.now.problem.tokens) self.now.problem.pools) changes.first.place changes.second.place i result }
+    {
+        let first = self.next_with(changes.first.place, i);
+        let second = self.next_with(changes.second.place, i);
+        first.min(second)
+    }
+
+    // The first of the pools from a place on that has the token; their number, where none has it.
+    fn next_with(&self, token: usize, i: usize) -> usize
+        requires { i ≤ length self.now.problem.pools }
+        ensures { IsNext (map (places_of self.now.problem.tokens) self.now.problem.pools) token i result }
+    {
+        let count = self.problem.pools().len();
+        if token >= self.nexts.len() {
+            return count;
+        }
+        self.nexts[token].places[i] as usize
     }
 
     /// The prices as set.
@@ -196,6 +251,22 @@ fn worths_of(alloc: Global, problem: &OpenProblem, prices: &[u64]) -> Result<Vec
         worths.push(worth_at(&pools[i], places[i], prices))?;
     }
     Ok(worths)
+}
+
+// The sum of the worths.
+fn total_of(problem: &OpenProblem, prices: &[u64], worths: &[u128]) -> u128
+    requires many { length prices.now ≡ length problem.now.tokens }
+    requires prices { ArePrices prices.now }
+    requires worths { worths.now ≡ map (pool_worth problem.now.tokens prices.now) problem.now.pools }
+    ensures value { result ≡ sum_by (pool_worth problem.now.tokens prices.now) problem.now.pools }
+    ensures below { result ≤ 2 ^ 107 }
+{
+    let _sound = problem.target();
+    let mut total: u128 = 0;
+    for i in 0..worths.len() {
+        total += worths[i];
+    }
+    total
 }
 
 // The worth of a pool after one token's price was changed, where it was `old` before.

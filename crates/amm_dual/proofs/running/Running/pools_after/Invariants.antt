@@ -1,11 +1,12 @@
-use Rattle.std.proofs.Common.{◌≡◌, ◌*◌, ◌^◌, ◌≤◌, take}
-use Rattle.std.specs.Prelude.{sum_by}
-use Rattle.amm_model.specs.Bound.{pool_worth}
-use Rattle.amm_dual.specs.Running.{after}
+use Rattle.std.proofs.Common.{◌≤◌, ◌-◌, length}
+use Rattle.amm_dual.specs.Running.{IsBalance}
 use Rattle.amm_dual.proofs.running.Running.pools_after.Given as goal
 
 abbrev pub invariant-loop-i : goal.invariant-loop-i
 invariant-loop-i l = record {
-  value_is : l.value ≡ sum_by (pool_worth l.self-inside.problem.now.tokens (after l.self-inside.prices.items l.changes)) (take l.i l.self-inside.problem.now.pools);
-  below : l.value ≤ l.i * 2 ^ 99;
+  within : l.i ≤ length l.self-inside.problem.now.pools;
+  balance : IsBalance l.self-inside.problem.now l.self-inside.prices.items l.changes l.i l.balance;
 }
+
+abbrev pub decreases-loop-i : goal.decreases-loop-i
+decreases-loop-i l = length l.self-inside.problem.now.pools - l.i

@@ -1,5 +1,5 @@
 use Rattle.std.proofs.Common.{◌≤◌, ◌<◌, ◌^◌}
-use Rattle.amm_dual.proofs.lower.least.Given as goal
+use Rattle.amm_dual.proofs.lower.halved.Given as goal
 
 abbrev pub invariant-loop : goal.invariant-loop
 invariant-loop l = record {
