@@ -1,5 +1,6 @@
 //! Nanoseconds of the formulas: roots, worths and bounds, over numbers that a fixed seed makes.
-//! With the word `search`: microseconds of the search for prices, over problems that seeds make.
+//! With the word `search`: microseconds of the search for prices and of whole splits, over problems
+//! that seeds make; with a second word, of the shapes whose name begins with it.
 //!
 //! It measures only when it is given a word; with none it does nothing.
 #![tactic(auto)]
@@ -165,9 +166,13 @@ fn measure_formulas(rt: &HostRuntime) -> io::Result<()> {
 }
 
 fn main(rt: HostRuntime) -> io::Result<()> {
-    match env::args(&rt)?.nth(1) {
+    let mut words = env::args(&rt)?;
+    match words.nth(1) {
         None => Ok(()),
-        Some(word) if word.as_str() == "search" => search::measure(&rt),
+        Some(word) if word.as_str() == "search" => match words.next() {
+            None => search::measure(&rt, ""),
+            Some(shape) => search::measure(&rt, shape.as_str()),
+        },
         Some(_) => measure_formulas(&rt),
     }
 }

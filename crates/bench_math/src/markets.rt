@@ -1,5 +1,6 @@
 //! Routing problems that a seed makes.
-ghost use Rattle.std.specs.Prelude.{◌<◌, ◌≤◌};
+ghost use Rattle.std.specs.Prelude.{◌<◌, ◌≤◌, IsTrue};
+ghost use Rattle.amm_names.specs.Pools.{is_fee};
 
 use amm_model::{PoolName, Problem, ProblemPool, TokenName};
 use std::alloc::Global;
@@ -20,14 +21,43 @@ pub enum Kind {
     Random,
     /// Any number of binary digits up to 48 for each reserve.
     Wide,
+    /// This number for each reserve.
+    Equal(u64),
 }
 
-/// How many tokens and pools, and how the reserves are drawn.
+/// Which pairs of tokens have a pool.
+#[derive(Clone, Copy, Debug, PartialEq, Eq, Drop)]
+pub enum Graph {
+    /// As many as there are to be, drawn alike.
+    Random,
+    /// Those of one of the first four tokens.
+    Hub,
+    /// Each token and the next.
+    Chain,
+    /// All, with a pool of each fee.
+    Full,
+}
+
+/// How many tokens and pools, which pairs they join, how the reserves are drawn, and the amount of
+/// the first token; None: 2^30 units of value.
 #[derive(Clone, Copy, Drop)]
 pub struct Shape {
     pub tokens: usize,
     pub pools: usize,
+    pub graph: Graph,
     pub kind: Kind,
+    pub amount: Option<u64>,
+}
+
+// The fees of the pools of a pair, in the order of their names.
+fn fee_at(place: usize) -> u8
+    ensures { IsTrue (is_fee result) }
+{
+    match place {
+        0 => 3,
+        1 => 1,
+        _ => 10,
+    }
 }
 
 /// The problem of a seed: pools between pairs of tokens that are drawn, from the first token to the
@@ -43,15 +73,31 @@ pub fn problem_of(alloc: Global, shape: Shape, seed: u64) -> Option<Problem> {
     let mut pools = Vec::new(alloc);
     for i in 0..count {
         for j in i + 1..count {
-            if draw.below(pairs.max(1)) < shape.pools.saturating_sub(pools.len()) as u64 {
-                let reserves = reserves(&mut draw, shape.kind, values[i], values[j]);
-                pools.push(pool(alloc, i, j, reserves)?).ok()?;
+            let missing = shape.pools.saturating_sub(pools.len()) as u64;
+            let drawn = draw.below(pairs.max(1)) < missing;
+            for place in 0..3 {
+                let fee = fee_at(place);
+                if has_pool(shape.graph, i, j, fee, drawn) {
+                    let reserves = reserves(&mut draw, shape.kind, values[i], values[j]);
+                    pools.push(pool(alloc, i, j, fee, reserves)?).ok()?;
+                }
             }
             pairs = pairs.saturating_sub(1);
         }
     }
-    let d = ((1 << 30) / values[0].max(1)).max(1);
+    let usual = ((1 << 30) / values[0].max(1)).max(1);
+    let d = shape.amount.unwrap_or(usual);
     Problem::from_parts(alloc, token(alloc, 0)?, token(alloc, count - 1)?, d, pools).ok()?
+}
+
+// Whether two tokens have a pool with the fee; `drawn`: their pair was drawn.
+fn has_pool(graph: Graph, i: usize, j: usize, fee: u8, drawn: bool) -> bool {
+    match graph {
+        Graph::Random => fee == 3 && drawn,
+        Graph::Hub => fee == 3 && i < 4,
+        Graph::Chain => fee == 3 && j.saturating_sub(i) == 1,
+        Graph::Full => true,
+    }
 }
 
 // The reserves of a pool of two tokens of these values.
@@ -71,12 +117,15 @@ fn reserves(draw: &mut Draw, kind: Kind, value0: u64, value1: u64) -> (u64, u64)
             let r0 = draw.next() >> (16 + draw.below(48));
             (r0, draw.next() >> (16 + draw.below(48)))
         }
+        Kind::Equal(reserve) => (reserve, reserve),
     };
     (r0.clamp(1, MOST_RESERVE), r1.clamp(1, MOST_RESERVE))
 }
 
-fn pool(alloc: Global, i: usize, j: usize, reserves: (u64, u64)) -> Option<ProblemPool> {
-    let name = PoolName::of(alloc, &token(alloc, i)?, &token(alloc, j)?, 3).ok()??;
+fn pool(alloc: Global, i: usize, j: usize, fee: u8, reserves: (u64, u64)) -> Option<ProblemPool>
+    requires { IsTrue (is_fee fee) }
+{
+    let name = PoolName::of(alloc, &token(alloc, i)?, &token(alloc, j)?, fee).ok()??;
     Some(ProblemPool {
         name,
         r0: reserves.0,
