@@ -1,5 +1,11 @@
 pub mod Parts
+pub mod Writable
+pub mod KeptQuotes
 pub mod Told
+pub mod Settling
 pub mod Fair
+pub mod Doing
+pub mod Splitting
 pub mod Steps
+pub mod Determined
 pub mod Streaming

@@ -1,3 +1,4 @@
 pub mod Codes
+pub mod Ready
 pub mod Commands
 pub mod Service

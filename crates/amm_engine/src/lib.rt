@@ -6,6 +6,8 @@
 
 mod dispatch;
 mod engine;
+mod queries;
+mod split;
 mod status;
 mod transaction;
 
