@@ -66,6 +66,7 @@ def verdict(text):
     worths = sum(worth(tokens, g, reserves, prices) for tokens, g, reserves, _ in table.values())
     return ("yes", delivered, str(bound)) if (prices[s] * d + worths) // prices[t] == bound else ("no", "BAD_BOUND")
 
-answer = verdict(sys.stdin.buffer.read().decode("utf-8", "replace"))
-print(json.dumps(answer, separators=(",", ":")))
-sys.exit(answer[0] == "no")
+if __name__ == "__main__":
+    answer = verdict(sys.stdin.buffer.read().decode("utf-8", "replace"))
+    print(json.dumps(answer, separators=(",", ":")))
+    sys.exit(answer[0] == "no")

@@ -2,14 +2,21 @@
 """The rules of the ledger once more, in unbounded whole numbers and with no thought of speed.
 
 It was written from docs/LEDGER.md and docs/COMMANDS.md and shares nothing with the program, so that
-the two can be compared: `scripts/compare` runs both on random sessions. `scripts/model.py
+the two can be compared: `scripts/compare` runs both on random sessions. `scripts/model.py [REPLIES]
 <SESSION.jsonl` prints the replies to a session.
+
+A split may be answered by any of many quotes. So the model takes the quote of a split from the
+replies that the program gave, REPLIES, looks whether it is one (`scripts/splits.py`), and keeps it:
+its own reply is then the same, or `[LINE,"wrong",WHY]`.
 """
 import copy
 import json
 import re
 import sys
 from math import isfinite, isqrt
+from pathlib import Path
+
+import splits
 
 AMOUNT = 2**52 - 1
 RESERVE = 2**48 - 1
@@ -25,6 +32,10 @@ class Refused(Exception):
 
     def __init__(self, word):
         self.word = word
+
+
+class Wrong(Exception):
+    """The reply that was given to a split is none that it may have."""
 
 
 def refuse_if(test, word):
@@ -134,13 +145,16 @@ FORMS = {
     "remove": (is_user, is_token, is_token, is_amount, is_amount, is_amount, is_holder, is_amount),
     "swapin": (is_user, path_of, is_amount, is_amount, is_holder, is_amount),
     "swapout": (is_user, path_of, is_amount, is_amount, is_holder, is_amount),
+    "split": (is_token, is_token, is_amount),
+    "settle": (is_user, is_amount, is_amount),
+    "certificate": (is_amount,),
     "quoteout": (path_of, is_amount),
     "quotein": (path_of, is_amount),
     "pool": (is_pool,),
     "balance": (is_asset, is_holder),
     "total": (is_asset,),
 }
-STEPS = {"transfer", "create", "mint", "burn", "swap", "skim", "sync", "flash", "add", "remove", "swapin", "swapout"}
+STEPS = {"transfer", "create", "mint", "burn", "swap", "skim", "sync", "flash", "add", "remove", "swapin", "swapout", "settle"}
 
 
 def has_form(value, kinds):
@@ -176,6 +190,7 @@ class Ledger:
         self.kinds = kinds
         self.bal, self.tokens, self.pairs = {}, [], {}
         self.fee_to, self.setter, self.time = "0", "admin", 0
+        self.quotes = ()
 
     # ---- balances
 
@@ -362,6 +377,51 @@ class Ledger:
         self.pairs[pool] = Pair()
         return [pool]
 
+    # ---- quotes
+
+    def pool_row(self, pool):
+        """A pool with its reserves and balances."""
+        pair = self.pairs.get(pool)
+        return [pool, pair.r0, pair.r1, *self.held(pool)] if pair else None
+
+    def problem(self):
+        """All pools whose two reserves are positive, in the order of their names."""
+        return [self.pool_row(pool) for pool in sorted(self.pairs) if self.pairs[pool].r0 and self.pairs[pool].r1]
+
+    def split(self, s, t, d, told):
+        refuse_if(s == t, "IDENTICAL")
+        refuse_if(s not in self.tokens or t not in self.tokens, "UNKNOWN_TOKEN")
+        refuse_if(d == 0, "ZERO_AMOUNT")
+        refuse_if(len(self.quotes) >= 256, "QUOTE_LIMIT")
+        pools = self.problem()
+        refuse_if(not splits.has_route(pools, s, t, d), "NO_ROUTE")
+        try:
+            _, _, _, delivered, bound, prices, legs = json.loads(told)
+        except (ValueError, TypeError):
+            raise Wrong("no quote is told")
+        quote = splits.Quote(s, t, d, pools, prices, legs, delivered, bound)
+        if fault := splits.fault_of(quote):
+            raise Wrong(fault)
+        self.quotes += (quote,)
+        return [len(self.quotes), delivered, bound, prices, legs]
+
+    def quote(self, number):
+        refuse_if(not 1 <= number <= len(self.quotes), "NO_QUOTE")
+        return self.quotes[number - 1]
+
+    def settle(self, actor, number, deadline):
+        quote = self.quote(number)
+        kept = {row[0]: row for row in quote.pools}
+        pools = [leg[0] for leg in quote.legs]
+        refuse_if(deadline < self.time, "EXPIRED")
+        refuse_if(any(pool in self.pairs and self.pairs[pool].locked for pool in pools), "LOCKED")
+        refuse_if(any(self.pool_row(pool) != kept[pool] for pool in pools), "STALE")
+        refuse_if(self.balance(quote.s, actor) < quote.d, "FUNDS")
+        for pool, token, paid, bought in quote.legs:
+            self.move(token, actor, pool, paid)
+            self.swap(pool, *((0, bought) if token == parts(pool)[0] else (bought, 0)), actor)
+        return [quote.delivered]
+
     # ---- commands
 
     def act(self, kind, actor, *rest):
@@ -397,6 +457,8 @@ class Ledger:
             for step in steps:
                 self.act(*step)
             return self.give_back(pool, out0, out1)
+        if kind == "settle":
+            return self.settle(actor, *rest)
         if kind in ("add", "remove"):
             return getattr(self, kind)(actor, *rest, fee)
         items, n, limit, to = rest
@@ -410,9 +472,13 @@ class Ledger:
         self.hops(actor, path, amounts, to)
         return [amounts]
 
-    def perform(self, kind, *rest):
+    def perform(self, told, kind, *rest):
         if kind in STEPS:
             return self.act(kind, *rest)
+        if kind == "split":
+            return self.split(*rest, told)
+        if kind == "certificate":
+            return [splits.certificate(self.quote(*rest))]
         if kind in ("deposit", "withdraw"):
             user, token, n = rest
             if kind == "deposit":
@@ -445,8 +511,9 @@ class Ledger:
         self.known(rest[0])
         return [self.balance(*rest)] if kind == "balance" else [self.total(*rest)]
 
-    def answer(self, line):
-        """The reply to a line that is not blank, without its number. A refused line changes nothing."""
+    def answer(self, line, told=""):
+        """The reply to a line that is not blank, without its number, where this one was told. A refused line changes nothing."""
+        quotes = self.quotes
         before = copy.deepcopy((self.bal, self.tokens, self.pairs, self.fee_to, self.setter, self.time))
         try:
             refuse_if(len(line) > 65536, "LONG_LINE")
@@ -458,20 +525,24 @@ class Ledger:
             if value[0] == "flash":
                 steps = count_steps(value, value[1], 1)
                 refuse_if(steps is None or steps > 256, "BAD_COMMAND")
-            return ["ok", *self.perform(*value)]
-        except Refused as refused:
+            return ["ok", *self.perform(told, *value)]
+        except (Refused, Wrong) as why:
             self.bal, self.tokens, self.pairs, self.fee_to, self.setter, self.time = before
-            return ["no", WORDS.index(refused.word) + 1, refused.word]
+            self.quotes = quotes
+            if isinstance(why, Wrong):
+                return ["wrong", str(why)]
+            return ["no", WORDS.index(why.word) + 1, why.word]
 
 
-def replies(lines, kinds=frozenset(FORMS)):
-    """The replies to the lines of a session, each a text without its newline."""
-    ledger = Ledger(kinds)
+def replies(lines, told=(), kinds=frozenset(FORMS)):
+    """The replies to the lines of a session, each a text without its newline, where these were told."""
+    ledger, told = Ledger(kinds), iter(told)
     for number, line in enumerate(lines, 1):
         if line.strip(" \t\r") or len(line) > 65536:
-            yield json.dumps([number, *ledger.answer(line)], separators=(",", ":"))
+            yield json.dumps([number, *ledger.answer(line, next(told, ""))], separators=(",", ":"))
 
 
 if __name__ == "__main__":
-    for reply in replies(sys.stdin.read().removesuffix("\n").split("\n")):
+    given = Path(sys.argv[1]).read_text().splitlines() if len(sys.argv) > 1 else ()
+    for reply in replies(sys.stdin.read().removesuffix("\n").split("\n"), given):
         print(reply)

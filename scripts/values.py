@@ -16,18 +16,21 @@ PLACES = 1 << 48  # an average price has 48 binary places
 
 
 class Pool:
-    """A pool of a problem: its two tokens in byte order, its fee in thousandths, its reserves.
-
-    What it has is here the same as its reserves.
+    """A pool of a problem: its two tokens in byte order, its fee in thousandths, its reserves, and
+    its balances, which are its reserves where none are given.
     """
 
-    def __init__(self, tokens, r0, r1, fee=3):
+    def __init__(self, tokens, r0, r1, fee=3, balances=None):
         self.tokens, self.reserves, self.fee = tokens, (r0, r1), fee
+        self.balances = balances or self.reserves
+
+    def is_admissible(self):
+        return max(self.balances) < WIDTH
 
     def pays(self, zero_in, x):
         """What the pool pays for x of its token 0 or 1; 0 where it has no room for x."""
         rin, rout = self.reserves if zero_in else self.reserves[::-1]
-        if rin + x >= WIDTH:
+        if self.balances[0 if zero_in else 1] + x >= WIDTH:
             return 0
         weight = 1000 - self.fee
         return weight * x * rout // (1000 * rin + weight * x)
@@ -60,7 +63,8 @@ def are_different(items):
 def is_path(pools, source, target, path):
     tokens = [source] + [token_out(pools, hop) for hop in path]
     return (
-        are_different([place for place, _ in path])
+        all(pools[place].is_admissible() for place, _ in path)
+        and are_different([place for place, _ in path])
         and leads(pools, source, path, target)
         and are_different(tokens)
     )
@@ -74,6 +78,23 @@ def paths(pools, source, target):
         for path in itertools.product(hops(pools), repeat=length)
         if is_path(pools, source, target, path)
     ]
+    return sorted(found, key=places)
+
+
+def walked_paths(pools, source, target):
+    """The same paths, sooner: a longer one goes on from one that has not come to the target."""
+    found, begun = [], [()]
+    for _ in range(3):
+        longer = []
+        for path in begun:
+            last = token_out(pools, path[-1]) if path else source
+            for place, pool in enumerate(pools):
+                if pool.is_admissible() and last in pool.tokens and place not in places(path):
+                    hop = place, pool.tokens[0] == last
+                    if token_out(pools, hop) not in [source, *(token_out(pools, h) for h in path)]:
+                        longer.append((*path, hop))
+        found += [path for path in longer if token_out(pools, path[-1]) == target]
+        begun = [path for path in longer if token_out(pools, path[-1]) != target]
     return sorted(found, key=places)
 
 
@@ -91,15 +112,14 @@ def gives(pools, path, x):
     return x
 
 
-def one_way_values(pools, source, target, d):
-    for path in paths(pools, source, target):
+def one_way_values(pools, ways, d):
+    for path in ways:
         for k in range(1, 17):
             if value := gives(pools, path, d * k // 16):
                 yield value
 
 
-def two_way_values(pools, source, target, d):
-    ways = paths(pools, source, target)
+def two_way_values(pools, ways, d):
     for first, second in itertools.product(ways, ways):
         for k in range(1, 16):
             part = d * k // 16
@@ -109,12 +129,12 @@ def two_way_values(pools, source, target, d):
                     yield a + b
 
 
-def spread_value(pools, source, target, d, sizes, price_in, price_out):
+def spread_value(pools, ways, d, sizes, price_in, price_out):
     """The sum of what the shares give, taken one after the other by their gain; None where none is."""
     left, used, total, taken = 16, [], 0, False
     while True:
         best = None
-        for path in paths(pools, source, target):
+        for path in ways:
             for k in sizes:
                 gain = price_out * gives(pools, path, d * k // 16) - price_in * (d * k // 16)
                 if k <= left and are_apart(path, used) and gain > 0:
@@ -127,8 +147,8 @@ def spread_value(pools, source, target, d, sizes, price_in, price_out):
         total += gives(pools, path, d * k // 16)
 
 
-def equal_spread(pools, source, target, d, count):
-    return spread_value(pools, source, target, d, [16 // count], 0, 1)
+def equal_spread(pools, ways, d, count):
+    return spread_value(pools, ways, d, [16 // count], 0, 1)
 
 
 def sequential_value(pools, parts, target):
@@ -221,8 +241,9 @@ def cases():
     triangle = even("AM", "AT", "MT")
     # One path gives floor(997*100000*10^6/(10^9+997*100000)) = 90661 directly. Eleven sixteenths,
     # 68750, give 64146 there, and 31250 give 30214 and then 29242 by way of M.
-    yield "triangle, best one way", max(one_way_values(triangle, "A", "T", 100000)), 90661
-    yield "triangle, best two ways", max(two_way_values(triangle, "A", "T", 100000)), 64146 + 29242
+    ways = paths(triangle, "A", "T")
+    yield "triangle, best one way", max(one_way_values(triangle, ways, 100000)), 90661
+    yield "triangle, best two ways", max(two_way_values(triangle, ways, 100000)), 64146 + 29242
     # A bound at the prices 1 and 2 is (100000 + 170329) / 2, at equal prices what is given.
     direct = even("AT")
     yield "bound, prices 1 and 2", bound(direct, [("A", 100000)], "T", {"A": 1, "T": 2}), 135164
@@ -230,29 +251,45 @@ def cases():
     # A fourth of 400000 gives 90661 in the first pool of each way and 82896 in its second. Two
     # halves give 166249 and then 142183 each.
     middles = ["A1", "A2", "A3", "A4", "1T", "2T", "3T", "4T"]
-    ways = even(*middles)
-    yield "four ways, equal shares", equal_spread(ways, "A", "T", 400000, 4), 4 * 82896
-    yield "four ways, best two ways", max(two_way_values(ways, "A", "T", 400000)), 2 * 142183
+    four = even(*middles)
+    ways = paths(four, "A", "T")
+    yield "four ways, equal shares", equal_spread(four, ways, 400000, 4), 4 * 82896
+    yield "four ways, best two ways", max(two_way_values(four, ways, 400000)), 2 * 142183
     # At the prices 855, 900, 900, 1000 half goes directly and gives 73868, and a fourth goes each
     # by M and by N and gives 36826. Without prices a half goes directly, where it gives most, and
     # then a half by M: 73868 + 68594; two ways do best with eleven sixteenths directly, 98831, and
     # five by M, 50000 to 47482 to 45199.
     web = even("AM", "AN", "AT", "MT", "NT")
-    priced = spread_value(web, "A", "T", 160000, range(1, 17), 855, 1000)
-    plain = max(equal_spread(web, "A", "T", 160000, count) for count in (2, 4, 8))
+    ways = paths(web, "A", "T")
+    priced = spread_value(web, ways, 160000, range(1, 17), 855, 1000)
+    plain = max(equal_spread(web, ways, 160000, count) for count in (2, 4, 8))
     yield "shares at prices", priced, 73868 + 2 * 36826
     yield "equal shares", plain, 73868 + 68594
-    yield "two ways", max(two_way_values(web, "A", "T", 160000)), 98831 + 45199
+    yield "two ways", max(two_way_values(web, ways, 160000)), 98831 + 45199
+    # By a walk there are the same paths: A-T, A-M-T and A-N-T; of N in the place of T also A-T-N,
+    # A-M-T-N.
+    yield "paths by a walk", walked_paths(web, "A", "T"), ways
+    yield "longer paths by a walk", walked_paths(web, "A", "N"), paths(web, "A", "N")
     # Each of two parts gives 90661 in a pool of its own.
     both = even("AT", "BT")
     parts = [("A", 100000), ("B", 100000)]
     yield "basket, one after the other", sequential_value(both, parts, "T"), 2 * 90661
-    yield "basket, a part alone", max(one_way_values(both, "B", "T", 100000)), 90661
+    alone = paths(both, "B", "T")
+    yield "basket, a part alone", max(one_way_values(both, alone, 100000)), 90661
     # 262144 U give floor(997*262144*10^6/(4*10^9+997*262144)) = 61331 E in the pool of fee 3, and
     # these give floor(999*61331*5*10^6/(10^9+999*61331)) = 288662 U in the other.
     unequal = [Pool("EU", MILLION, 4 * MILLION), Pool("EU", MILLION, 5 * MILLION, fee=1)]
     yield "cycle, best power of two", max(cycle_values(unequal, "U")), 288662 - 262144
     yield "cycle, none in one pool", sum(1 for _ in cycle_values(unequal[:1], "U")), 0
+    # A pool whose surplus leaves no room for 100000 gives nothing for it; one with a balance past
+    # the width has no path.
+    full = [Pool("AT", MILLION, MILLION, balances=(WIDTH - 50000, MILLION))]
+    ways = paths(full, "A", "T")
+    # Seven sixteenths are 43750, and give floor(997*43750*10^6 / (10^9 + 997*43750)) =
+    # floor(43618750000000 / 1043618750) = 41795; eight come to the width.
+    yield "little room", max(one_way_values(full, ways, 100000)), 41795
+    over = [Pool("AT", MILLION, MILLION, balances=(WIDTH, MILLION))]
+    yield "a balance past the width", paths(over, "A", "T"), []
     yield from average_cases()
 
 
