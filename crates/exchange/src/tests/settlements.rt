@@ -1,10 +1,11 @@
 //! Settlements of kept quotes, alone and inside a loan.
 use super::session::is_transcript;
-use super::told::{has_replies, output, split};
+use super::told::{checked, has_replies, output, split};
 use std::test::Fail;
 
 /// Half of 20000 ETH gives 39486 USD in the pool of the fee of 3, and floor(999*10000*4000000 /
 /// (10^9 + 999*10000)) = floor(39960000000000 / 1009990000) = 39564 in that of 1: 79050 together.
+/// The certificate speaks of the pools as they were quoted, also when they have changed.
 #[test]
 fn pays_exactly_what_was_quoted_over_two_fees(rt: HostRuntime) -> Result<(), Fail> {
     let lines = br#"["deposit","alice","ETH",2020000]
@@ -14,6 +15,7 @@ fn pays_exactly_what_was_quoted_over_two_fees(rt: HostRuntime) -> Result<(), Fai
 ["split","ETH","USD",20000]
 ["settle","alice",1,0]
 ["balance","USD","alice"]
+["certificate",1]
 "#;
     let told = output(&rt, "run", lines.as_slice())?;
     let quote = split(&rt, told.as_slice(), 5)?;
@@ -24,6 +26,9 @@ fn pays_exactly_what_was_quoted_over_two_fees(rt: HostRuntime) -> Result<(), Fai
         quote.delivered, quote.delivered
     )?;
     assert!(rt; has_replies(told.as_slice(), paid.as_str())?);
+    let found = checked(&rt, told.as_slice(), 8)?;
+    let yes = format!(in rt.alloc(); "[\"yes\",{},\"{}\"]\n", quote.delivered, quote.bound)?;
+    assert_eq!(rt; found.as_slice(), yes.as_bytes());
     Ok(())
 }
 
