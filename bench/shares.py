@@ -24,12 +24,12 @@ BY_LOOPS = {"GLIBC_TUNABLES": "glibc.cpu.x86_rep_stosb_threshold=1048576"}
 # The first that fits names a function's group.
 GROUPS = [
     ("amm_command, the short way: a plain line as a command", r"^amm_command::plain"),
+    ("amm_reply, amm_cert, serde_json: the reply's text", r"^(amm_reply|amm_cert|amm_text|serde::|serde_json::(typed|ser|sink|logged|log|number)|json::write|itoa)"),
     ("serde_json: the text of a line as a value", r"^(serde_json|json|fast_float|ryu|simdutf8|core::str)"),
     ("amm_command: a value as a command", r"^amm_command"),
     ("amm_names: names read, compared, joined", r"^amm_names"),
     ("amm_state, indexmap: rows looked up and changed", r"^(amm_state|indexmap)"),
     ("amm_pair, amm_path, amm_script, amm_pool: the rules", r"^(amm_pair|amm_path|amm_script|amm_pool|amm_num|amm_factory|__udivti3)"),
-    ("amm_reply, amm_cert: the reply's text", r"^(amm_reply|amm_cert|amm_text|itoa|amm_engine::line::write_reply)"),
     ("amm_engine, exchange: a line taken, a transaction begun and ended, the rest put into them", r"^(amm_engine|exchange|memchr|amm_io)"),
     ("memory taken and given back", r"(malloc|free|realloc|rattle_alloc|rattle_dealloc|unlink_chunk|grow_amortized)"),
     ("memory copied", r"(memcpy|memmove|memset)"),

@@ -6,6 +6,8 @@ pub mod Forms
 pub mod Parts
 pub mod Whole
 pub mod Plain
+pub mod PlainQuotes
+pub mod OneProof
 pub mod ReadBack
 pub mod Unique
 pub mod Ascii

@@ -15,5 +15,5 @@ mod row;
 #[cfg(test)]
 mod tests;
 
-pub use certificate_writer::{put_certificate, write};
+pub use certificate_writer::{send_certificate, write};
 pub use reader::read;

@@ -1,80 +1,80 @@
-//! The parts of a quote, behind the text of an array that is being written.
-ghost use Rattle.std.specs.Prelude.{◌≡◌, ◌++◌, ◌∷◌, [], ◌<◌, OnOk, All, map, length, if◌then◌else◌};
+//! The parts of a quote, as what they send to a `Serializer`.
+ghost use Rattle.std.specs.Prelude.{◌≡◌, ◌∷◌, [], ◌<◌, OnOk, All, map, length, if◌then◌else◌};
 ghost use Rattle.std.specs.List.{zip};
 ghost use Rattle.serde_json.specs.Data.{string};
-ghost use Rattle.serde_json.specs.Written.{compact_text};
+ghost use Rattle.serde_json.specs.Events.{SendsValue};
 ghost use Rattle.amm_model.specs.Json.{whole, list};
-ghost use Rattle.amm_model.specs.Certificate.{pool_value, price_value, leg_value};
+ghost use Rattle.amm_model.specs.Certificate.{pool_value, price_value, leg_value, prices_value, legs_value, IsWritable};
 ghost use Rattle.amm_model.specs.Routing.{token0_of, token1_of};
 ghost use Rattle.amm_model.specs.declared.route.Leg as legs_view;
-ghost use Rattle.amm_text.specs.Texts.{next_text, joined_text};
+ghost use Rattle.amm_text.specs.Sends.{SendsEach};
 
-use amm_model::{Leg, Memory, ProblemPool, TokenName};
-use amm_text::{push_number, push_token, put_comma, put_pool, put_token};
+use amm_model::{Leg, ProblemPool, Quote, TokenName};
+use amm_text::{send_pool, send_token};
+use serde::Serializer;
 
-fn put_problem_pool(text: &mut Vec<u8>, pool: &ProblemPool) -> Result<(), Memory>
-    ensures { OnOk result (text.new.items ≡ text.old.items ++ compact_text (pool_value pool.now)) }
+fn send_problem_pool<S: Serializer>(pool: &ProblemPool, out: &mut S) -> Result<(), S::Error>
+    ensures { OnOk result (SendsValue (pool_value pool.now) (S.written out.old) (S.written out.new)) }
 {
-    text.push(b'[')?;
-    put_pool(text, &pool.name)?;
-    push_number(text, pool.r0)?;
-    push_number(text, pool.r1)?;
-    push_number(text, pool.b0)?;
-    push_number(text, pool.b1)?;
-    text.push(b']')?;
-    Ok(())
+    out.begin_seq(Some(5))?;
+    send_pool(&pool.name, out)?;
+    out.u64(pool.r0)?;
+    out.u64(pool.r1)?;
+    out.u64(pool.b0)?;
+    out.u64(pool.b1)?;
+    out.end_seq()
 }
 
-fn put_pools(text: &mut Vec<u8>, pools: &[ProblemPool]) -> Result<(), Memory>
-    ensures { OnOk result (text.new.items ≡ text.old.items ++ joined_text (map pool_value pools.now)) }
+fn send_each_pool<S: Serializer>(pools: &[ProblemPool], out: &mut S) -> Result<(), S::Error>
+    ensures { OnOk result (SendsEach (map pool_value pools.now) (S.written out.old) (S.written out.new)) }
 {
-    for (i, pool) in pools.iter().enumerate() {
-        put_comma(text, i)?;
-        put_problem_pool(text, pool)?;
+    for pool in pools {
+        send_problem_pool(pool, out)?;
     }
     Ok(())
 }
 
-/// A comma and the pools of a problem, with their reserves and balances.
-pub fn push_pools(text: &mut Vec<u8>, pools: &[ProblemPool]) -> Result<(), Memory>
-    ensures { OnOk result (text.new.items ≡ text.old.items ++ next_text (list (map pool_value pools.now))) }
+/// The pools of a problem, with their reserves and balances.
+pub fn send_pools<S: Serializer>(pools: &[ProblemPool], out: &mut S) -> Result<(), S::Error>
+    ensures { OnOk result (SendsValue (list (map pool_value pools.now)) (S.written out.old) (S.written out.new)) }
 {
-    text.extend_from_slice(b",[")?;
-    put_pools(text, pools)?;
-    text.push(b']')?;
-    Ok(())
+    out.begin_seq(Some(pools.len()))?;
+    send_each_pool(pools, out)?;
+    out.end_seq()
 }
 
-fn put_price(text: &mut Vec<u8>, token: &TokenName, price: u64) -> Result<(), Memory>
-    ensures { OnOk result (text.new.items ≡ text.old.items ++ compact_text (price_value (token.now, price))) }
+fn send_price<S: Serializer>(token: &TokenName, price: u64, out: &mut S) -> Result<(), S::Error>
+    ensures { OnOk result (SendsValue (price_value (token.now, price)) (S.written out.old) (S.written out.new)) }
 {
-    text.push(b'[')?;
-    put_token(text, token)?;
-    push_number(text, price)?;
-    text.push(b']')?;
-    Ok(())
+    out.begin_seq(Some(2))?;
+    send_token(token, out)?;
+    out.u64(price)?;
+    out.end_seq()
 }
 
-fn put_prices(text: &mut Vec<u8>, tokens: &[TokenName], prices: &[u64]) -> Result<(), Memory>
+fn send_each_price<S: Serializer>(
+    tokens: &[TokenName],
+    prices: &[u64],
+    out: &mut S,
+) -> Result<(), S::Error>
     requires { length prices.now ≡ length tokens.now }
-    ensures { OnOk result (text.new.items ≡ text.old.items ++ joined_text (map price_value (zip tokens.now prices.now))) }
+    ensures { OnOk result (SendsEach (map price_value (zip tokens.now prices.now)) (S.written out.old) (S.written out.new)) }
 {
     for (i, token) in tokens.iter().enumerate() {
-        put_comma(text, i)?;
-        put_price(text, token, prices[i])?;
+        send_price(token, prices[i], out)?;
     }
     Ok(())
 }
 
-/// A comma and the tokens with their prices.
-pub fn push_prices(text: &mut Vec<u8>, tokens: &[TokenName], prices: &[u64]) -> Result<(), Memory>
-    requires { length prices.now ≡ length tokens.now }
-    ensures { OnOk result (text.new.items ≡ text.old.items ++ next_text (list (map price_value (zip tokens.now prices.now)))) }
+/// The tokens of a quote's problem with their prices.
+pub fn send_prices<S: Serializer>(quote: &Quote, out: &mut S) -> Result<(), S::Error>
+    requires { length quote.now.prices ≡ length quote.now.problem.tokens }
+    ensures { OnOk result (SendsValue (prices_value quote.now) (S.written out.old) (S.written out.new)) }
 {
-    text.extend_from_slice(b",[")?;
-    put_prices(text, tokens, prices)?;
-    text.push(b']')?;
-    Ok(())
+    let tokens = quote.problem.tokens();
+    out.begin_seq(Some(tokens.len()))?;
+    send_each_price(tokens, quote.prices.as_slice(), out)?;
+    out.end_seq()
 }
 
 /// The token that goes into a pool.
@@ -88,38 +88,40 @@ fn token_in(pool: &ProblemPool, zero_in: bool) -> &TokenName
     }
 }
 
-fn put_leg(text: &mut Vec<u8>, pool: &ProblemPool, leg: &Leg) -> Result<(), Memory>
-    ensures { OnOk result (text.new.items ≡ text.old.items ++ compact_text (list (string pool.now.name
+fn send_leg<S: Serializer>(pool: &ProblemPool, leg: &Leg, out: &mut S) -> Result<(), S::Error>
+    ensures { OnOk result (SendsValue (list (string pool.now.name
         ∷ string (if leg.now.zero_in then token0_of pool.now else token1_of pool.now)
-        ∷ whole leg.now.input ∷ whole leg.now.output ∷ []))) }
+        ∷ whole leg.now.input ∷ whole leg.now.output ∷ [])) (S.written out.old) (S.written out.new)) }
 {
-    text.push(b'[')?;
-    put_pool(text, &pool.name)?;
-    push_token(text, token_in(pool, leg.zero_in))?;
-    push_number(text, leg.input)?;
-    push_number(text, leg.output)?;
-    text.push(b']')?;
-    Ok(())
+    out.begin_seq(Some(4))?;
+    send_pool(&pool.name, out)?;
+    send_token(token_in(pool, leg.zero_in), out)?;
+    out.u64(leg.input)?;
+    out.u64(leg.output)?;
+    out.end_seq()
 }
 
-fn put_legs(text: &mut Vec<u8>, pools: &[ProblemPool], legs: &[Leg]) -> Result<(), Memory>
+fn send_each_leg<S: Serializer>(
+    pools: &[ProblemPool],
+    legs: &[Leg],
+    out: &mut S,
+) -> Result<(), S::Error>
     requires { All (λ (leg : legs_view.Leg). leg.pool < length pools.now) legs.now }
-    ensures { OnOk result (text.new.items ≡ text.old.items ++ joined_text (map (leg_value pools.now) legs.now)) }
+    ensures { OnOk result (SendsEach (map (leg_value pools.now) legs.now) (S.written out.old) (S.written out.new)) }
 {
-    for (i, leg) in legs.iter().enumerate() {
-        put_comma(text, i)?;
-        put_leg(text, &pools[leg.pool as usize], leg)?;
+    for leg in legs {
+        send_leg(&pools[leg.pool as usize], leg, out)?;
     }
     Ok(())
 }
 
-/// A comma and the legs of a route over the pools.
-pub fn push_legs(text: &mut Vec<u8>, pools: &[ProblemPool], legs: &[Leg]) -> Result<(), Memory>
-    requires { All (λ (leg : legs_view.Leg). leg.pool < length pools.now) legs.now }
-    ensures { OnOk result (text.new.items ≡ text.old.items ++ next_text (list (map (leg_value pools.now) legs.now))) }
+/// The legs of a quote, in the order in which they are taken.
+pub fn send_legs<S: Serializer>(quote: &Quote, out: &mut S) -> Result<(), S::Error>
+    requires { IsWritable quote.now }
+    ensures { OnOk result (SendsValue (legs_value quote.now) (S.written out.old) (S.written out.new)) }
 {
-    text.extend_from_slice(b",[")?;
-    put_legs(text, pools, legs)?;
-    text.push(b']')?;
-    Ok(())
+    let legs = quote.route.legs.as_slice();
+    out.begin_seq(Some(legs.len()))?;
+    send_each_leg(quote.problem.pools(), legs, out)?;
+    out.end_seq()
 }

@@ -9,7 +9,7 @@ ghost use Rattle.amm_engine.specs.Ready.{IsReady};
 
 use crate::dispatch::perform;
 use amm_model::{Answer, Command, Fault, Memory};
-use amm_reply::append_answer;
+use amm_reply::write_answer;
 use amm_state::{State, Tx};
 use std::alloc::Global;
 
@@ -25,8 +25,8 @@ pub(crate) fn write_reply(text: &mut Vec<u8>, number: u64, answer: &Answer) -> R
     requires { CanBeWritten answer.now }
     ensures { OnOk result (text.new.items ≡ reply_text (record { line = number; answer = answer.now })) }
 {
-    text.clear();
-    append_answer(text, number, answer)
+    *text = write_answer(*text.allocator(), number, answer)?;
+    Ok(())
 }
 
 /// Does a command in a transaction of its own. The reply's text is made before the ledger is kept,

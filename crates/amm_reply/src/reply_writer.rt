@@ -1,10 +1,10 @@
 //! A whole reply.
-ghost use Rattle.std.specs.Prelude.{◌≡◌, ◌++◌, IfOk, OnOk};
-ghost use Rattle.amm_model.specs.ReplyText.{reply_text, CanBeWritten};
+ghost use Rattle.std.specs.Prelude.{◌≡◌, IfOk};
+ghost use Rattle.serde_json.specs.Written.{compact_text};
+ghost use Rattle.amm_model.specs.ReplyText.{reply_text, reply_value, CanBeWritten};
 
-use crate::verdict::push_verdict;
+use crate::reply_row::ReplyRow;
 use amm_model::{Answer, Memory, Reply};
-use amm_text::put_number;
 use std::alloc::Global;
 
 /// The text of a reply, with its newline.
@@ -12,28 +12,29 @@ pub fn write(alloc: Global, reply: &Reply) -> Result<Vec<u8>, Memory>
     requires { CanBeWritten reply.now.answer }
     ensures { IfOk result (λ text. text.items ≡ reply_text reply.now) }
 {
-    let mut text = Vec::with_capacity(alloc, 128)?;
-    append(&mut text, reply)?;
+    write_answer(alloc, reply.line, &reply.answer)
+}
+
+/// The same of the parts of a reply: the number of its line, and the answer.
+#[tactic(auto, unfolding(amm_model::specs::ReplyText::reply_text))]
+pub fn write_answer(alloc: Global, line: u64, answer: &Answer) -> Result<Vec<u8>, Memory>
+    requires { CanBeWritten answer.now }
+    ensures { IfOk result (λ text. text.items ≡ reply_text (record { line = line; answer = answer.now })) }
+{
+    let mut text = row_text(alloc, line, answer)?;
+    text.push(b'\n')?;
     Ok(text)
 }
 
-/// The text of a reply, with its newline, behind what is there. Where memory is lacking, a part of
-/// it may stand there.
-pub fn append(text: &mut Vec<u8>, reply: &Reply) -> Result<(), Memory>
-    requires { CanBeWritten reply.now.answer }
-    ensures { OnOk result (text.new.items ≡ text.old.items ++ reply_text reply.now) }
-{
-    append_answer(text, reply.line, &reply.answer)
-}
-
-/// The same for the parts of a reply: the number of its line, and the answer.
-pub fn append_answer(text: &mut Vec<u8>, line: u64, answer: &Answer) -> Result<(), Memory>
+/// The text of a reply's row, as `serde_json` writes it.
+fn row_text(alloc: Global, line: u64, answer: &Answer) -> Result<Vec<u8>, Memory>
     requires { CanBeWritten answer.now }
-    ensures { OnOk result (text.new.items ≡ text.old.items ++ reply_text (record { line = line; answer = answer.now })) }
+    ensures { IfOk result (λ text. text.items
+        ≡ compact_text (reply_value (record { line = line; answer = answer.now }))) }
 {
-    text.push(b'[')?;
-    put_number(text, line)?;
-    push_verdict(text, answer)?;
-    text.extend_from_slice(b"]\n")?;
-    Ok(())
+    match serde_json::to_vec(alloc, &ReplyRow { line, answer }) {
+        Ok(text) => Ok(text),
+        // A row sends no keys and flattens nothing, so nothing else fails.
+        Err(_) => Err(Memory),
+    }
 }

@@ -3,7 +3,7 @@ ghost use Rattle.std.specs.Prelude.{IfOk};
 ghost use Rattle.amm_model.specs.Certificate.{IsWritable};
 ghost use Rattle.amm_model.specs.ReplyText.{CanBeWritten};
 
-use crate::{append, write};
+use crate::{write, write_answer};
 use amm_model::{
     AddReceipt, AmountList, Answer, BurnReceipt, Leg, LegList, Memory, MintReceipt, PairRecord,
     PoolName, Prices, Problem, ProblemPool, Quote, Refusal, RemoveReceipt, Reply, Route,
@@ -196,22 +196,10 @@ fn lists(rt: HostRuntime) -> Result<(), Fail> {
         text(alloc, quote_in)?.as_slice(),
         b"[7,\"ok\",[]]\n".as_slice()
     );
-    let mut both = Vec::new(alloc);
-    append(
-        &mut both,
-        &Reply {
-            line: 1,
-            answer: Answer::Time,
-        },
-    )?;
-    append(
-        &mut both,
-        &Reply {
-            line: 2,
-            answer: Answer::Time,
-        },
-    )?;
-    assert_eq!(rt; both.as_slice(), b"[1,\"ok\"]\n[2,\"ok\"]\n".as_slice());
+    assert_eq!(rt;
+        write_answer(alloc, 8, &Answer::Time)?.as_slice(),
+        b"[8,\"ok\"]\n".as_slice()
+    );
     Ok(())
 }
 

@@ -1,0 +1,39 @@
+use Rattle.std.proofs.Common.{List, [], ◌∷◌, ◌++◌, refl}
+use Rattle.std.specs.Prelude.{codes}
+use Rattle.std.proofs.lemmas.Result.{on_ok_weaker}
+use Rattle.serde_json.specs.Data.{Data, string}
+use Rattle.amm_model.specs.declared.pair.PairRecord.{PairRecord}
+use Rattle.amm_model.specs.Json.{whole, wide}
+use Rattle.amm_text.specs.Sends.{SendsEach}
+use Rattle.amm_text.proofs.Sent.{list_sent, front-more}
+use Rattle.amm_reply.proofs.reply_row.pool.Goals as goal
+
+pub returns : goal.returns
+returns g c =
+    let p : PairRecord = c.args.pair.now in
+    let before : List Data = whole c.args.line ∷ string (codes "ok") ∷ [] in
+    let behind : List Data =
+    whole p.r0 ∷ whole p.r1 ∷ whole c.args.b0 ∷ whole c.args.b1 ∷ whole c.args.supply ∷ wide p.k_last ∷ whole p.last ∷ wide p.acc0 ∷ wide p.acc1 ∷ [] in
+    let last = rw c.from.ensures at c.in_ok-u64-6.ensures in
+    let more : SendsEach behind (g.S.Serializer.written c.front.new.out) (g.S.Serializer.written c.send_wide-3.new.out) = (
+      _,
+      c.in_ok-u64.ensures,
+      (
+        _,
+        c.in_ok-u64-2.ensures,
+        (
+          _,
+          c.in_ok-u64-3.ensures,
+          (
+            _,
+            c.in_ok-u64-4.ensures,
+            (
+              _,
+              c.in_ok-u64-5.ensures,
+              (_, c.in_ok-send_wide.ensures, (_, last, (_, c.in_ok-send_wide-2.ensures, (_, c.in_ok-send_wide-3.ensures, refl)))),
+            ),
+          ),
+        ),
+      ),
+    ) in
+    on_ok_weaker c.end_seq.result (λ ended. list_sent (before ++ behind) _ _ _ (front-more 11 before behind _ _ _ c.in_ok-front.ensures more) ended) c.end_seq.ensures
