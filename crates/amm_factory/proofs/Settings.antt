@@ -1,5 +1,5 @@
 -- What an accepted change of the settings leaves.
-use Rattle.std.proofs.Common.{◌≡◌, ℕ, not, List, Ok, refl, sym, ap, subst}
+use Rattle.std.proofs.Common.{◌≡◌, ℕ, not, List, Ok, refl, sym, ap, subst, arith}
 use Rattle.amm_names.specs.declared.holder.Holder.{Holder}
 use Rattle.amm_model.specs.declared.fault.Refusal.TheVariants as code
 use Rattle.amm_model.specs.Ledger.{Ledger, with_fee_to, with_setter}
@@ -26,7 +26,7 @@ module _ (ledger : Ledger) (actor : List ℕ) (to : Holder) (made : Made (Unit {
   set_fee_to_keeps = subst (Keeps ledger) (sym set_fee_to_made) (set_keeps ledger to ledger.setter)
 
   pub set_fee_to_sound : IsSound ledger → IsSound made.ledger
-  set_fee_to_sound sound = subst IsSound (sym set_fee_to_made) (set_sound ledger to ledger.setter ledger.time sound.time sound)
+  set_fee_to_sound sound = subst IsSound (sym set_fee_to_made) (set_sound ledger to ledger.setter ledger.time (omega arith) sound.time sound)
 
 module _ (ledger : Ledger) (actor to : List ℕ) (made : Made (Unit {0})) (is : set_setter ledger actor to ≡ Ok made) where
   pub set_setter_made : made.ledger ≡ with_setter ledger to
@@ -39,4 +39,4 @@ module _ (ledger : Ledger) (actor to : List ℕ) (made : Made (Unit {0})) (is : 
   set_setter_keeps = subst (Keeps ledger) (sym set_setter_made) (set_keeps ledger ledger.fee_to to)
 
   pub set_setter_sound : IsSound ledger → IsSound made.ledger
-  set_setter_sound sound = subst IsSound (sym set_setter_made) (set_sound ledger ledger.fee_to to ledger.time sound.time sound)
+  set_setter_sound sound = subst IsSound (sym set_setter_made) (set_sound ledger ledger.fee_to to ledger.time (omega arith) sound.time sound)

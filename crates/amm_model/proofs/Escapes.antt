@@ -98,3 +98,6 @@ escape-word refusals.NoRoute = refl
 escape-word refusals.QuoteLimit = refl
 escape-word refusals.NoQuote = refl
 escape-word refusals.Stale = refl
+escape-word refusals.ObservationLimit = refl
+escape-word refusals.NoObservation = refl
+escape-word refusals.BadWindow = refl

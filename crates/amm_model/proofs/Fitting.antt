@@ -8,7 +8,7 @@ use Rattle.amm_model.specs.Json.{json_value}
 use Rattle.amm_model.specs.Forms.{as_text, as_list, as_user, as_token, as_pool, as_asset, as_holder, as_path, as_amount}
 use Rattle.amm_model.specs.CommandView as view
 use Rattle.amm_model.specs.CommandView.{CommandView}
-use Rattle.amm_model.specs.Reading.{deposit_row, withdraw_row, time_row, fee_to_row, setter_row, quote_out_row, quote_in_row, split_row, certificate_row, pool_row, balance_row, total_row, act_row, row_of, move_row, as_steps, steps_inside, command_of_list, command_of, command_of_line}
+use Rattle.amm_model.specs.Reading.{deposit_row, withdraw_row, time_row, fee_to_row, setter_row, quote_out_row, quote_in_row, split_row, certificate_row, pool_row, balance_row, total_row, observe_row, average_row, consult_row, window_row, act_row, row_of, move_row, as_steps, steps_inside, command_of_list, command_of, command_of_line}
 use Rattle.amm_model.specs.declared.limits.TheConstants.{LOAN_LIMIT, STEP_LIMIT}
 use Rattle.amm_model.specs.Fits.{Fits}
 use Rattle.amm_model.proofs.Guards.{given, same_answer}
@@ -135,6 +135,51 @@ total_fits (asset ∷ []) asked is =
 total_fits [] asked is = cc
 total_fits (a ∷ b ∷ more) asked is = cc
 
+observe_fits : (rest : List Data) → Reads Fits (observe_row rest)
+unfolding Reads
+observe_fits (user ∷ pool ∷ []) asked is =
+    let user_read = given (as_user user) _ asked is in
+    let pool_read = given (as_pool pool) _ asked user_read.after in
+    subst Fits (same_answer _ asked pool_read.after) tt
+observe_fits [] asked is = cc
+observe_fits (a ∷ []) asked is = cc
+observe_fits (a ∷ b ∷ c ∷ more) asked is = cc
+
+average_fits : (rest : List Data) → Reads Fits (average_row rest)
+unfolding Reads
+average_fits (i ∷ j ∷ []) asked is =
+    let first_read = given (as_amount i) _ asked is in
+    let second_read = given (as_amount j) _ asked first_read.after in
+    subst Fits (same_answer _ asked second_read.after) ((amount_small i first_read.value first_read.was, amount_small j second_read.value second_read.was))
+average_fits [] asked is = cc
+average_fits (a ∷ []) asked is = cc
+average_fits (a ∷ b ∷ c ∷ more) asked is = cc
+
+consult_fits : (rest : List Data) → Reads Fits (consult_row rest)
+unfolding Reads
+consult_fits (i ∷ j ∷ token ∷ n ∷ []) asked is =
+    let first_read = given (as_amount i) _ asked is in
+    let second_read = given (as_amount j) _ asked first_read.after in
+    let token_read = given (as_token token) _ asked second_read.after in
+    let n_read = given (as_amount n) _ asked token_read.after in
+    subst Fits (same_answer _ asked n_read.after)
+    ((amount_small i first_read.value first_read.was, (amount_small j second_read.value second_read.was, amount_small n n_read.value n_read.was)))
+consult_fits [] asked is = cc
+consult_fits (a ∷ []) asked is = cc
+consult_fits (a ∷ b ∷ []) asked is = cc
+consult_fits (a ∷ b ∷ c ∷ []) asked is = cc
+consult_fits (a ∷ b ∷ c ∷ d ∷ e ∷ more) asked is = cc
+
+window_fits : (rest : List Data) → Reads Fits (window_row rest)
+unfolding Reads
+window_fits (pool ∷ n ∷ []) asked is =
+    let pool_read = given (as_pool pool) _ asked is in
+    let n_read = given (as_amount n) _ asked pool_read.after in
+    subst Fits (same_answer _ asked n_read.after) (amount_small n n_read.value n_read.was)
+window_fits [] asked is = cc
+window_fits (a ∷ []) asked is = cc
+window_fits (a ∷ b ∷ c ∷ more) asked is = cc
+
 act_fits : (kind : List ℕ) (rest : List Data) → Reads Fits (act_row kind rest)
 unfolding Reads
 act_fits kind (user ∷ rest) asked is =
@@ -150,7 +195,9 @@ row_fits kind rest =
     chosen Fits _ _ _ (deposit_fits rest) (chosen Fits _ _ _ (withdraw_fits rest) (chosen Fits _ _ _ (time_fits rest)
     (chosen Fits _ _ _ (fee_to_fits rest) (chosen Fits _ _ _ (setter_fits rest) (chosen Fits _ _ _ (quote_out_fits rest)
     (chosen Fits _ _ _ (quote_in_fits rest) (chosen Fits _ _ _ (split_fits rest) (chosen Fits _ _ _ (certificate_fits rest)
-    (chosen Fits _ _ _ (pool_fits rest) (chosen Fits _ _ _ (balance_fits rest) (chosen Fits _ _ _ (total_fits rest) (act_fits kind rest))))))))))))
+    (chosen Fits _ _ _ (pool_fits rest) (chosen Fits _ _ _ (balance_fits rest) (chosen Fits _ _ _ (total_fits rest)
+    (chosen Fits _ _ _ (observe_fits rest) (chosen Fits _ _ _ (average_fits rest) (chosen Fits _ _ _ (consult_fits rest)
+    (chosen Fits _ _ _ (window_fits rest) (act_fits kind rest))))))))))))))))
 
 list_fits : (ds : List Data) (asked : CommandView) → command_of_list ds ≡ Ok asked → Fits asked
 unfolding Reads

@@ -17,7 +17,7 @@ use Rattle.amm_model.specs.declared.fault.Refusal.TheVariants as code
 use Rattle.amm_model.specs.Ledger.{Ledger, HoldingsByAsset, Pairs, holdings_of, sum_held, balance, total, is_listed, pair_of, with_more}
 use Rattle.amm_model.specs.Outcome.{Made, ledger_only}
 use Rattle.amm_model.specs.Postings.{list_token, issue, retire, transfer, set_time}
-use Rattle.amm_model.specs.declared.limits.TheConstants.{AMOUNT_LIMIT, TOKEN_LIMIT, QUOTE_LIMIT, OBSERVATION_LIMIT}
+use Rattle.amm_model.specs.declared.limits.TheConstants.{AMOUNT_LIMIT, TOKEN_LIMIT, QUOTE_LIMIT}
 use Rattle.amm_model.specs.Pools.{same_name, asset0, asset1}
 use Rattle.amm_model.specs.SplitAnswers.{IsSplitAnswer}
 use Rattle.amm_model.specs.Formulas.{IsBacked}
@@ -28,6 +28,8 @@ use Rattle.amm_model.proofs.Names.{asset_cases, same_name_itself}
 use Rattle.amm_model.proofs.Balances.{Rest, Added, added_added, Taken, taken_kept}
 use Rattle.amm_model.proofs.Transfers.{Sent, transfer_sent, retire_taken}
 use Rattle.amm_model.proofs.Soundness.{tokens_apart}
+use Rattle.amm_model.specs.Observations.{AreInTime}
+use Rattle.amm_model.proofs.InTime.{in_time_same, in_time_later}
 
 -- every pair stays as it is, and no pool and not the zero holder lose anything
 pub record Plain (old new : Ledger) : Type 0 where
@@ -45,7 +47,7 @@ pub record Counted (ledger : Ledger) : Type 0 where
   pub time : ledger.time ≤ AMOUNT_LIMIT
   pub quotes : length ledger.quotes ≤ QUOTE_LIMIT
   pub answers : All IsSplitAnswer ledger.quotes
-  pub observations : length ledger.observations ≤ OBSERVATION_LIMIT
+  pub observations : AreInTime ledger.time ledger.observations
 
 pub plain_known : (old new : Ledger) → Plain old new → (asset : Asset) → IsKnown old asset → IsKnown new asset
 plain_known old new plain (assets.Token name) is = plain.listed name is
@@ -93,7 +95,7 @@ rest_counted old new sound rest totals known = record {
   time = omega (arith, rest.time, sound.time);
   quotes = omega (arith, ap length rest.quotes, sound.quotes);
   answers = subst (λ (qs : List Quote). All IsSplitAnswer qs) (sym rest.quotes) sound.answers;
-  observations = omega (arith, ap length rest.observations, sound.observations);
+  observations = in_time_same old.time new.time old.observations new.observations rest.time rest.observations sound.observations;
 }
 
 still_listed : (old new : Ledger) → new.tokens ≡ old.tokens → (token : List ℕ) → is_listed old.tokens token ≡ true → is_listed new.tokens token ≡ true
@@ -222,31 +224,35 @@ module _ (old : Ledger) (fee_to : Holder) (setter : List ℕ) (time : ℕ) where
   pub set_plain : Plain old set_to
   set_plain = record { pairs = refl; listed = λ token is. is; held = λ q pool. omega arith; zero = λ q. omega arith; shares = λ pool. refl }
 
-  pub set_sound : time ≤ AMOUNT_LIMIT → IsSound old → IsSound set_to
-  set_sound limit sound = plain_sound old set_to sound set_plain record {
+  pub set_sound : old.time ≤ time → time ≤ AMOUNT_LIMIT → IsSound old → IsSound set_to
+  set_sound later limit sound = plain_sound old set_to sound set_plain record {
     totals = sound.totals;
     known = λ q some. plain_known old set_to set_plain q (sound.known q some);
     tokens = sound.tokens;
     time = limit;
     quotes = sound.quotes;
     answers = sound.answers;
-    observations = sound.observations;
+    observations = in_time_later old.time time old.observations later sound.observations;
   }
 
 abbrev pub at_time : Ledger → ℕ → Ledger
 at_time old time = record old { time = time }
 
 module _ (old : Ledger) (time : ℕ) (made : Made (Unit {0})) (is : set_time old time ≡ Ok made) where
+  allowed : (nat_lt time old.time ≡ false) × (ledger_only (at_time old time) ≡ Ok made)
+  allowed = past_refusal (nat_lt time old.time) code.TimeBack (ledger_only (at_time old time)) made is
+
   later : at_time old time ≡ made.ledger
-  later =
-      let past = past_refusal (nat_lt time old.time) code.TimeBack (ledger_only (at_time old time)) made is in
-      ap (λ (k : Made (Unit {0})). k.ledger) (same_answer (record { ledger = at_time old time; answer = tt }) made past.1)
+  later = ap (λ (k : Made (Unit {0})). k.ledger) (same_answer (record { ledger = at_time old time; answer = tt }) made allowed.1)
+
+  not_back : old.time ≤ time
+  not_back = let told : nat_lt time old.time ≡ false = allowed.0 in grind (arith, nat_tests)
 
   pub set_time_plain : Plain old made.ledger
   set_time_plain = subst (Plain old) later (set_plain old old.fee_to old.setter time)
 
   pub set_time_sound : time ≤ AMOUNT_LIMIT → IsSound old → IsSound made.ledger
-  set_time_sound limit sound = subst IsSound later (set_sound old old.fee_to old.setter time limit sound)
+  set_time_sound limit sound = subst IsSound later (set_sound old old.fee_to old.setter time not_back limit sound)
 
   pub set_time_totals : TokenTotalsKept old made.ledger
   set_time_totals token = ap (λ (l : Ledger). total l (assets.Token token)) (sym later)

@@ -10,10 +10,10 @@ use Rattle.amm_names.specs.declared.holder.Asset.{Asset}
 use Rattle.amm_names.specs.declared.holder.Asset.TheVariants as assets
 use Rattle.amm_model.specs.declared.pair.PairRecord.{PairRecord}
 use Rattle.amm_model.specs.declared.route.Quote.{Quote}
-use Rattle.amm_model.specs.declared.observation.Observation.{Observation}
 use Rattle.amm_names.specs.Pools.{pool_token0, pool_token1}
 use Rattle.amm_model.specs.Ledger.{Ledger, Pairs, balance, total, is_listed, pair_of, with_pair}
-use Rattle.amm_model.specs.declared.limits.TheConstants.{AMOUNT_LIMIT, TOKEN_LIMIT, QUOTE_LIMIT, OBSERVATION_LIMIT}
+use Rattle.amm_model.proofs.InTime.{in_time_same}
+use Rattle.amm_model.specs.declared.limits.TheConstants.{AMOUNT_LIMIT, TOKEN_LIMIT, QUOTE_LIMIT}
 use Rattle.amm_model.specs.Pools.{supply, same_name, asset0, asset1}
 use Rattle.amm_model.specs.Sound.{IsSoundPair, IsKnown, IsSound}
 use Rattle.amm_model.specs.SplitAnswers.{IsSplitAnswer}
@@ -136,7 +136,7 @@ sound_but_at pool old new now sound only there limit this = record {
   time = omega (arith, only.time, sound.time);
   quotes = subst (λ (qs : List Quote). length qs ≤ QUOTE_LIMIT) (sym only.quotes) sound.quotes;
   answers = subst (λ (qs : List Quote). All IsSplitAnswer qs) (sym only.quotes) sound.answers;
-  observations = subst (λ (os : List Observation). length os ≤ OBSERVATION_LIMIT) (sym only.observations) sound.observations;
+  observations = in_time_same old.time new.time old.observations new.observations only.time only.observations sound.observations;
 } where
   here : (pair : PairRecord) → pair_of new.pairs pool ≡ Some pair → IsSoundPair new pool pair
   here pair is = subst (λ (p : PairRecord). IsSoundPair new pool p) (one_value (pair_of new.pairs pool) now pair there is) this

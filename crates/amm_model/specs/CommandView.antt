@@ -49,6 +49,10 @@ pub data CommandView : Type 0 where
   pool : Name → CommandView
   balance : Asset → Holder → CommandView
   total : Asset → CommandView
+  observe : Name → Name → CommandView
+  average : ℕ → ℕ → CommandView
+  consult : ℕ → ℕ → Name → ℕ → CommandView
+  window : Name → ℕ → CommandView
   act : Name → Move → CommandView
 
 abbrev pub moves_of : List Move → Moves
@@ -92,4 +96,8 @@ view_of (commands.Certificate quote) = certificate quote
 view_of (commands.Pool name) = pool name
 view_of (commands.Balance asset holder) = balance asset holder
 view_of (commands.Total asset) = total asset
+view_of (commands.Observe actor name) = observe actor name
+view_of (commands.Average first second) = average first second
+view_of (commands.Consult first second token n) = consult first second token n
+view_of (commands.Window name seconds) = window name seconds
 view_of (commands.Act actor step) = act actor (move_of_step step)

@@ -116,6 +116,15 @@ quote_of quotes (suc before) = slice_get quotes before
 abbrev pub with_quote : Ledger → Quote → Ledger
 with_quote ledger quote = record ledger { quotes = ledger.quotes ++ quote ∷ [] }
 
+-- the observation with this number, counted the same way
+abbrev pub observation_at : List Observation → ℕ → Option Observation
+observation_at kept zero = None
+observation_at kept (suc before) = slice_get kept before
+
+-- the ledger with one more observation, the last
+abbrev pub with_observation : Ledger → Observation → Ledger
+with_observation ledger observation = record ledger { observations = ledger.observations ++ observation ∷ [] }
+
 -- the ledger with another user who may set that receiver
 abbrev pub with_setter : Ledger → Name → Ledger
 with_setter ledger to = record ledger { setter = to }

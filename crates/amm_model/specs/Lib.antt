@@ -10,6 +10,9 @@ pub mod Pools
 pub mod Operations
 pub mod Factory
 pub mod Router
+pub mod Observations
+pub mod Oracle
+pub mod WeightedPrices
 pub mod CommandView
 pub mod Meaning
 pub mod Sound
@@ -37,8 +40,6 @@ pub mod Splits
 pub mod Settlement
 pub mod Baskets
 pub mod Cycles
-pub mod Observations
-pub mod WeightedPrices
 pub mod Certificate
 -- Words of the proofs: what is known of a command that was read, of a later ledger, of a ledger's
 -- tables, and of ledgers as values. No promise to users speaks of them.

@@ -12,7 +12,7 @@ use Rattle.amm_model.specs.declared.fault.Refusal.TheVariants as code
 use Rattle.amm_model.specs.declared.reply.Answer.{Answer}
 use Rattle.amm_model.specs.declared.reply.Answer.TheVariants as answers
 use Rattle.amm_model.specs.Outcome.{◌>>=◌, refuse_if, Outcome, ledger_only}
-use Rattle.amm_model.specs.Ledger.{Ledger, balance, total, is_listed, pair_of, quote_of}
+use Rattle.amm_model.specs.Ledger.{Ledger, balance, total, is_listed, pair_of, quote_of, observation_at}
 use Rattle.amm_model.specs.Postings.{list_token, issue, retire, transfer, set_time}
 use Rattle.amm_model.specs.Pools.{held0, held1, supply}
 use Rattle.amm_model.specs.Operations.{mint, burn, swap, skim, sync, lend, give_back}
@@ -20,6 +20,7 @@ use Rattle.amm_model.specs.Factory.{create, set_fee_to, set_setter}
 use Rattle.amm_model.specs.Router.{add, remove, exact_in, exact_out, amounts_out, amounts_in}
 use Rattle.amm_model.specs.Settlement.{settle}
 use Rattle.amm_model.specs.Splits.{SplitsTo}
+use Rattle.amm_model.specs.Oracle.{observe, average, consult, window}
 use Rattle.amm_model.specs.CommandView as view
 use Rattle.amm_model.specs.CommandView.{CommandView, Move, Moves}
 
@@ -112,6 +113,13 @@ query ledger view found = do
 abbrev pub pool_answer : Ledger → (pool : Name) → PairRecord → Answer
 pool_answer ledger pool pair = answers.Pool pair (held0 ledger pool) (held1 ledger pool) (supply ledger pool)
 
+-- what an observation that was made is answered: its number, and what is kept
+abbrev pub observe_answer : Outcome ℕ → Outcome Answer
+observe_answer outcome = do
+  made ← outcome
+  kept ← ok_or (observation_at made.ledger.observations made.answer) code.NoObservation
+  ledger_with made.ledger (answers.Observe made.answer kept)
+
 -- What a command may come to: a split to any quote that answers its problem, each other command to
 -- one outcome.
 unfoldable pub MayComeTo : Ledger → CommandView → Outcome Answer → Type 0
@@ -127,4 +135,8 @@ MayComeTo ledger (view.certificate number) outcome = query ledger answers.Certif
 MayComeTo ledger (view.pool pool) outcome = query ledger (pool_answer ledger pool) (ok_or (pair_of ledger.pairs pool) code.NoPair) ≡ outcome
 MayComeTo ledger (view.balance asset holder) outcome = query ledger (λ _. answers.Balance (balance ledger asset holder)) (known_asset ledger asset) ≡ outcome
 MayComeTo ledger (view.total asset) outcome = query ledger (λ _. answers.Total (total ledger asset)) (known_asset ledger asset) ≡ outcome
+MayComeTo ledger (view.observe actor pool) outcome = observe_answer (observe ledger pool) ≡ outcome
+MayComeTo ledger (view.average first second) outcome = query ledger answers.Average (average ledger first second) ≡ outcome
+MayComeTo ledger (view.consult first second token n) outcome = query ledger answers.Consult (consult ledger first second token n) ≡ outcome
+MayComeTo ledger (view.window pool seconds) outcome = query ledger answers.Window (window ledger pool seconds) ≡ outcome
 MayComeTo ledger (view.act actor step) outcome = meaning ledger actor step ≡ outcome

@@ -96,6 +96,36 @@ total_row (asset ∷ []) = do
   Ok (command.total a)
 total_row _ = Err BadCommand
 
+abbrev pub observe_row : List Data → Result CommandView Refusal
+observe_row (user ∷ pool ∷ []) = do
+  actor ← as_user user
+  name ← as_pool pool
+  Ok (command.observe actor name)
+observe_row _ = Err BadCommand
+
+abbrev pub average_row : List Data → Result CommandView Refusal
+average_row (i ∷ j ∷ []) = do
+  first ← as_amount i
+  second ← as_amount j
+  Ok (command.average first second)
+average_row _ = Err BadCommand
+
+abbrev pub consult_row : List Data → Result CommandView Refusal
+consult_row (i ∷ j ∷ token ∷ n ∷ []) = do
+  first ← as_amount i
+  second ← as_amount j
+  name ← as_token token
+  amount ← as_amount n
+  Ok (command.consult first second name amount)
+consult_row _ = Err BadCommand
+
+abbrev pub window_row : List Data → Result CommandView Refusal
+window_row (pool ∷ n ∷ []) = do
+  name ← as_pool pool
+  seconds ← as_amount n
+  Ok (command.window name seconds)
+window_row _ = Err BadCommand
+
 -- ---- what a step can be too: the elements behind the kind and the actor
 
 abbrev pub transfer_row : List Data → Result Move Refusal
@@ -294,7 +324,11 @@ row_of kind rest =
     else (if bytes_eq kind (codes "pool") then pool_row rest
     else (if bytes_eq kind (codes "balance") then balance_row rest
     else (if bytes_eq kind (codes "total") then total_row rest
-    else act_row kind rest)))))))))))
+    else (if bytes_eq kind (codes "observe") then observe_row rest
+    else (if bytes_eq kind (codes "average") then average_row rest
+    else (if bytes_eq kind (codes "consult") then consult_row rest
+    else (if bytes_eq kind (codes "window") then window_row rest
+    else act_row kind rest)))))))))))))))
 
 -- a kind, and what its row wants
 abbrev pub command_of_list : List Data → Result CommandView Refusal

@@ -37,6 +37,9 @@ refusal_number refusals.NoRoute = 30
 refusal_number refusals.QuoteLimit = 31
 refusal_number refusals.NoQuote = 32
 refusal_number refusals.Stale = 33
+refusal_number refusals.ObservationLimit = 34
+refusal_number refusals.NoObservation = 35
+refusal_number refusals.BadWindow = 36
 
 abbrev pub refusal_word : Refusal → List ℕ
 refusal_word refusals.BadJson = codes "BAD_JSON"
@@ -72,3 +75,6 @@ refusal_word refusals.NoRoute = codes "NO_ROUTE"
 refusal_word refusals.QuoteLimit = codes "QUOTE_LIMIT"
 refusal_word refusals.NoQuote = codes "NO_QUOTE"
 refusal_word refusals.Stale = codes "STALE"
+refusal_word refusals.ObservationLimit = codes "OBSERVATION_LIMIT"
+refusal_word refusals.NoObservation = codes "NO_OBSERVATION"
+refusal_word refusals.BadWindow = codes "BAD_WINDOW"

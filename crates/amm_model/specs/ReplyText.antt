@@ -38,6 +38,10 @@ ok_values (answers.Pool pair b0 b1 supply) =
     whole pair.r0 ∷ whole pair.r1 ∷ whole b0 ∷ whole b1 ∷ whole supply ∷ wide pair.k_last ∷ whole pair.last ∷ wide pair.acc0 ∷ wide pair.acc1 ∷ []
 ok_values (answers.Balance n) = whole n ∷ []
 ok_values (answers.Total n) = whole n ∷ []
+ok_values (answers.Observe number o) = whole number ∷ whole o.time ∷ wide o.acc0 ∷ wide o.acc1 ∷ []
+ok_values (answers.Average averages) = wide averages.price0 ∷ wide averages.price1 ∷ []
+ok_values (answers.Consult n) = whole n ∷ []
+ok_values (answers.Window found) = whole found.first ∷ whole found.second ∷ wide found.averages.price0 ∷ wide found.averages.price1 ∷ []
 
 -- what follows the number of the line
 abbrev pub verdict : Answer → List Data

@@ -10,9 +10,10 @@ use Rattle.amm_model.specs.declared.pair.PairRecord.{PairRecord}
 use Rattle.amm_names.specs.Pools.{pool_token0, pool_token1}
 use Rattle.amm_model.specs.Formulas.{IsBacked}
 use Rattle.amm_model.specs.Ledger.{Ledger, balance, total, is_listed, pair_of}
-use Rattle.amm_model.specs.declared.limits.TheConstants.{AMOUNT_LIMIT, TOKEN_LIMIT, PAIR_LIMIT, QUOTE_LIMIT, OBSERVATION_LIMIT, RESERVE_LIMIT, FIRST_LOCKED}
+use Rattle.amm_model.specs.declared.limits.TheConstants.{AMOUNT_LIMIT, TOKEN_LIMIT, PAIR_LIMIT, QUOTE_LIMIT, RESERVE_LIMIT, FIRST_LOCKED}
 use Rattle.amm_model.specs.Pools.{Terms, held0, held1, supply, same_name}
 use Rattle.amm_model.specs.SplitAnswers.{IsSplitAnswer}
+use Rattle.amm_model.specs.Observations.{AreInTime}
 
 -- the numbers of the record are within their widths
 pub record IsSmall (pair : PairRecord) : Type 0 where
@@ -42,7 +43,8 @@ IsKnown ledger (asset.Token name) = is_listed ledger.tokens name ≡ true
 IsKnown ledger (asset.Share pool) = IsSome (pair_of ledger.pairs pool)
 
 -- every pair is sound and has a name of its own, totals are within their limit, only known assets
--- are held, every quote answers the problem that it keeps, and the counts are within theirs
+-- are held, every quote answers the problem that it keeps, observations are in the order of their
+-- times, and the counts are within theirs
 pub record IsSound (ledger : Ledger) : Type 0 where
   pub pairs : (pool : Name) (pair : PairRecord) → pair_of ledger.pairs pool ≡ Some pair → IsSoundPair ledger pool pair
   pub names : IsDistinct same_name (keys_of ledger.pairs)
@@ -53,7 +55,7 @@ pub record IsSound (ledger : Ledger) : Type 0 where
   pub time : ledger.time ≤ AMOUNT_LIMIT
   pub quotes : length ledger.quotes ≤ QUOTE_LIMIT
   pub answers : All IsSplitAnswer ledger.quotes
-  pub observations : length ledger.observations ≤ OBSERVATION_LIMIT
+  pub observations : AreInTime ledger.time ledger.observations
 
 -- sound, and no pair is locked
 pub record IsAtRest (ledger : Ledger) : Type 0 where

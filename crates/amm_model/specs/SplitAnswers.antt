@@ -1,6 +1,6 @@
 -- Which quotes answer a split, and when there is none.
 use Rattle.std.specs.Prelude.{ℕ, ◌≡◌}
-use Rattle.amm_model.specs.Routing.{ProblemView, open_view}
+use Rattle.amm_model.specs.Routing.{ProblemView, IsProblem, open_view}
 use Rattle.amm_model.specs.Bound.{bound_of}
 use Rattle.amm_model.specs.Legs.{Delivers}
 use Rattle.amm_model.specs.Settled.{IsSettled}
@@ -8,10 +8,11 @@ use Rattle.amm_model.specs.Values.{IsOneOrTwoWayValue, AtLeastTheWays}
 use Rattle.amm_model.specs.Spreads.{AtLeastSpreads}
 use Rattle.amm_model.specs.declared.route.Quote.{Quote}
 
--- A quote that answers the split of its problem: its prices are settled, its bound is that of its
--- prices, its legs deliver its amount, and this is at least every one-way, two-way and spread
--- value. Route and prices are free within this.
+-- A quote that answers the split of its problem: its problem is one, its prices are settled, its
+-- bound is that of its prices, its legs deliver its amount, and this is at least every one-way,
+-- two-way and spread value. Route and prices are free within this.
 pub record IsSplitAnswer (quote : Quote) : Type 0 where
+  pub problem : IsProblem quote.problem
   pub settled : IsSettled (open_view quote.problem) quote.prices
   pub bound : quote.bound ≡ bound_of (open_view quote.problem) quote.prices
   pub delivers : Delivers (open_view quote.problem) quote.route.legs quote.delivered

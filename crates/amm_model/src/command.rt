@@ -147,6 +147,24 @@ pub enum Command {
     Total {
         asset: Asset,
     },
+    Observe {
+        actor: UserName,
+        pool: PoolName,
+    },
+    Average {
+        first: u64,
+        second: u64,
+    },
+    Consult {
+        first: u64,
+        second: u64,
+        token: TokenName,
+        n: u64,
+    },
+    Window {
+        pool: PoolName,
+        seconds: u64,
+    },
     Act {
         actor: UserName,
         step: Step,

@@ -39,6 +39,9 @@ pub enum Refusal {
     QuoteLimit,
     NoQuote,
     Stale,
+    ObservationLimit,
+    NoObservation,
+    BadWindow,
 }
 
 impl Refusal {
@@ -83,6 +86,9 @@ impl Refusal {
             Refusal::QuoteLimit => 31,
             Refusal::NoQuote => 32,
             Refusal::Stale => 33,
+            Refusal::ObservationLimit => 34,
+            Refusal::NoObservation => 35,
+            Refusal::BadWindow => 36,
         }
     }
 
@@ -124,6 +130,9 @@ impl Refusal {
             Refusal::QuoteLimit => "QUOTE_LIMIT",
             Refusal::NoQuote => "NO_QUOTE",
             Refusal::Stale => "STALE",
+            Refusal::ObservationLimit => "OBSERVATION_LIMIT",
+            Refusal::NoObservation => "NO_OBSERVATION",
+            Refusal::BadWindow => "BAD_WINDOW",
         }
     }
 }

@@ -27,7 +27,7 @@ pub use fault::{Fault, Refusal};
 pub use laws::{equal_accounts_are_one, one_balance_changes};
 pub use line::Line;
 pub use list::{LegList, PartList, ProblemPoolList};
-pub use observation::Observation;
+pub use observation::{Averages, Observation, WindowAnswer};
 pub use pair::{
     AddReceipt, BurnReceipt, MintReceipt, PairRecord, RemoveReceipt, SkimReceipt, SwapReceipt,
 };

@@ -1,7 +1,7 @@
 //! What is answered to a line.
 use crate::{
-    AddReceipt, AmountList, BurnReceipt, MintReceipt, PairRecord, Quote, Refusal, RemoveReceipt,
-    SkimReceipt, SwapReceipt,
+    AddReceipt, AmountList, Averages, BurnReceipt, MintReceipt, Observation, PairRecord, Quote,
+    Refusal, RemoveReceipt, SkimReceipt, SwapReceipt, WindowAnswer,
 };
 use amm_names::PoolName;
 
@@ -69,6 +69,15 @@ pub enum Answer {
     Total {
         n: u64,
     },
+    Observe {
+        number: u64,
+        observation: Observation,
+    },
+    Average(Averages),
+    Consult {
+        n: u64,
+    },
+    Window(WindowAnswer),
 }
 
 /// The answer to a line, with the number of the line, counted from 1.
