@@ -99,6 +99,10 @@ command_kind (command.certificate quote) = codes "certificate"
 command_kind (command.pool pool) = codes "pool"
 command_kind (command.balance asset holder) = codes "balance"
 command_kind (command.total asset) = codes "total"
+command_kind (command.observe actor pool) = codes "observe"
+command_kind (command.average first second) = codes "average"
+command_kind (command.consult first second token n) = codes "consult"
+command_kind (command.window pool seconds) = codes "window"
 command_kind (command.act actor m) = move_kind m
 
 -- what stands behind the word
@@ -115,6 +119,10 @@ command_values (command.certificate quote) = whole quote ∷ []
 command_values (command.pool pool) = string pool ∷ []
 command_values (command.balance asset holder) = string (asset_text asset) ∷ string (holder_text holder) ∷ []
 command_values (command.total asset) = string (asset_text asset) ∷ []
+command_values (command.observe actor pool) = string actor ∷ string pool ∷ []
+command_values (command.average first second) = whole first ∷ whole second ∷ []
+command_values (command.consult first second token n) = whole first ∷ whole second ∷ string token ∷ whole n ∷ []
+command_values (command.window pool seconds) = string pool ∷ whole seconds ∷ []
 command_values (command.act actor m) = string actor ∷ move_values actor m
 
 -- a command as the value that it is written as

@@ -63,6 +63,10 @@ fn row_of(alloc: Global, line: &mut Cursor<'_>, kind: Kind) -> Option<Command>
         Kind::Pool => row::pool_row(alloc, line),
         Kind::Balance => row::balance(alloc, line),
         Kind::Total => row::total(alloc, line),
+        Kind::Observe => row::observe(alloc, line),
+        Kind::Average => row::average(line),
+        Kind::Consult => row::consult(alloc, line),
+        Kind::Window => row::window(alloc, line),
         Kind::Step(kind) => act(alloc, line, kind),
     }
 }

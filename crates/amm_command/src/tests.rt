@@ -141,6 +141,40 @@ fn fees_and_paths(rt: HostRuntime) {
     }
 }
 
+/// Lines of the price oracle that fit their rows and that do not: names that are none, numbers past
+/// the greatest or with an exponent, an element too few or too many. None of them is a step.
+#[test]
+fn price_oracle(rt: HostRuntime) {
+    for (line, want) in [
+        ("[\"observe\",\"Alice\",\"ETH/USD\"]", 2),
+        ("[\"observe\",\"alice\",\"USD/ETH\"]", 2),
+        ("[\"observe\",\"alice\"]", 2),
+        ("[\"observe\",\"alice\",\"ETH/USD\",1]", 2),
+        ("[\"average\",1,4503599627370496]", 2),
+        ("[\"average\",1,1e3]", 2),
+        ("[\"average\",1]", 2),
+        ("[\"average\",1,2,3]", 2),
+        ("[\"average\",1,4503599627370495]", 0),
+        ("[\"consult\",1,2,\"eth\",3000]", 2),
+        ("[\"consult\",1,2,3000,\"ETH\"]", 2),
+        ("[\"consult\",1,2,\"ETH\",4503599627370496]", 2),
+        ("[\"consult\",1,2,\"ETH\"]", 2),
+        ("[\"consult\",1,2,\"ETH\",3000,1]", 2),
+        ("[\"consult\",1,2,\"ETH\",4503599627370495]", 0),
+        ("[\"window\",\"ETH\",30]", 2),
+        ("[\"window\",\"ETH/USD\",4503599627370496]", 2),
+        ("[\"window\",\"ETH/USD\"]", 2),
+        ("[\"window\",\"ETH/USD\",30,1]", 2),
+        ("[\"window\",\"ETH/USD\",4503599627370495]", 0),
+        (
+            "[\"flash\",\"alice\",\"A/B\",1,0,[[\"observe\",\"alice\",\"A/B\"]]]",
+            2,
+        ),
+    ] {
+        assert_eq!(rt; code(rt.alloc(), line.as_bytes()), want, "{line}");
+    }
+}
+
 /// A command with so many loans in one another, the innermost with no steps.
 fn nested(alloc: Global, loans: usize) -> Result<Vec<u8>, AllocError> {
     let mut line = Vec::new(alloc);

@@ -88,6 +88,10 @@ fn row_of(alloc: Global, kind: &str, arguments: &[Value]) -> Result<Command, Fau
         "pool" => row::pool_row(alloc, arguments),
         "balance" => row::balance(alloc, arguments),
         "total" => row::total(alloc, arguments),
+        "observe" => row::observe(alloc, arguments),
+        "average" => row::average(arguments),
+        "consult" => row::consult(alloc, arguments),
+        "window" => row::window(alloc, arguments),
         _ => act(alloc, kind, arguments),
     }
 }

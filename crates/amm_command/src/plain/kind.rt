@@ -35,6 +35,10 @@ pub enum Kind {
     Pool,
     Balance,
     Total,
+    Observe,
+    Average,
+    Consult,
+    Window,
     Step(StepKind),
 }
 
@@ -114,6 +118,14 @@ impl Kind {
             Some(Kind::Balance)
         } else if word == b"total".as_slice() {
             Some(Kind::Total)
+        } else if word == b"observe".as_slice() {
+            Some(Kind::Observe)
+        } else if word == b"average".as_slice() {
+            Some(Kind::Average)
+        } else if word == b"consult".as_slice() {
+            Some(Kind::Consult)
+        } else if word == b"window".as_slice() {
+            Some(Kind::Window)
         } else {
             None
         }

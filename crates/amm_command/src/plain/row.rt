@@ -1,7 +1,7 @@
 //! The rows that only a line can be, from the first value behind the word to the bracket.
 ghost use Rattle.std.specs.Prelude.{◌≡◌, codes, IfSome};
 ghost use Rattle.amm_model.specs.CommandView.{view_of};
-ghost use Rattle.amm_model.specs.Reading.{deposit_row, withdraw_row, time_row, fee_to_row, setter_row, quote_out_row, quote_in_row, split_row, certificate_row, pool_row, balance_row, total_row};
+ghost use Rattle.amm_model.specs.Reading.{deposit_row, withdraw_row, time_row, fee_to_row, setter_row, quote_out_row, quote_in_row, split_row, certificate_row, pool_row, balance_row, total_row, observe_row, average_row, consult_row, window_row};
 ghost use Rattle.amm_command.specs.Front.{ahead};
 ghost use Rattle.amm_command.specs.Taken.{CommandTaken};
 
@@ -173,6 +173,69 @@ pub fn total(alloc: Global, line: &mut Cursor<'_>) -> Option<Command>
     let asset = part::asset(alloc, line)?;
     if line.close() {
         Some(Command::Total { asset })
+    } else {
+        None
+    }
+}
+
+#[inline(never)]
+pub fn observe(alloc: Global, line: &mut Cursor<'_>) -> Option<Command>
+    ensures { IfSome result (λ c. CommandTaken (codes "observe") observe_row
+        (ahead line.old) (ahead line.new) (view_of c)) }
+{
+    let actor = part::user(alloc, line)?;
+    let pool = part::pool(alloc, line)?;
+    if line.close() {
+        Some(Command::Observe { actor, pool })
+    } else {
+        None
+    }
+}
+
+#[inline(never)]
+pub fn average(line: &mut Cursor<'_>) -> Option<Command>
+    ensures { IfSome result (λ c. CommandTaken (codes "average") average_row
+        (ahead line.old) (ahead line.new) (view_of c)) }
+{
+    let first = part::amount(line)?;
+    let second = part::amount(line)?;
+    if line.close() {
+        Some(Command::Average { first, second })
+    } else {
+        None
+    }
+}
+
+#[inline(never)]
+pub fn consult(alloc: Global, line: &mut Cursor<'_>) -> Option<Command>
+    ensures { IfSome result (λ c. CommandTaken (codes "consult") consult_row
+        (ahead line.old) (ahead line.new) (view_of c)) }
+{
+    let first = part::amount(line)?;
+    let second = part::amount(line)?;
+    let token = part::token(alloc, line)?;
+    let n = part::amount(line)?;
+    if line.close() {
+        Some(Command::Consult {
+            first,
+            second,
+            token,
+            n,
+        })
+    } else {
+        None
+    }
+}
+
+#[inline(never)]
+pub fn window(alloc: Global, line: &mut Cursor<'_>) -> Option<Command>
+    ensures { IfSome result (λ c. CommandTaken (codes "window") window_row
+        (ahead line.old) (ahead line.new) (view_of c)) }
+{
+    let pool = part::pool(alloc, line)?;
+    let seconds = part::amount(line)?;
+    if line.close() {
+        Some(Command::Window { pool, seconds })
     } else {
         None
     }

@@ -286,6 +286,33 @@ fn question(alloc: Global, command: &Command) -> Result<Vec<u8>, AllocError> {
             .names(&[asset_text(asset), holder_text(holder)])?
             .end(),
         Command::Total { asset } => Row::new(alloc, "total")?.names(&[asset_text(asset)])?.end(),
+        _ => oracle_row(alloc, command),
+    }
+}
+
+/// The row of what is asked of the price oracle.
+fn oracle_row(alloc: Global, command: &Command) -> Result<Vec<u8>, AllocError> {
+    match command {
+        Command::Observe { actor, pool } => Row::new(alloc, "observe")?
+            .names(&[actor.as_bytes(), pool.as_bytes()])?
+            .end(),
+        Command::Average { first, second } => Row::new(alloc, "average")?
+            .numbers(alloc, &[*first, *second])?
+            .end(),
+        Command::Consult {
+            first,
+            second,
+            token,
+            n,
+        } => Row::new(alloc, "consult")?
+            .numbers(alloc, &[*first, *second])?
+            .names(&[token.as_bytes()])?
+            .numbers(alloc, &[*n])?
+            .end(),
+        Command::Window { pool, seconds } => Row::new(alloc, "window")?
+            .names(&[pool.as_bytes()])?
+            .numbers(alloc, &[*seconds])?
+            .end(),
         _ => Ok(Vec::new(alloc)),
     }
 }

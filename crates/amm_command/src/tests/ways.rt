@@ -49,6 +49,19 @@ fn each_kind_both_ways(rt: HostRuntime) -> Result<(), Fail> {
         ),
         ("[\"total\",\"ETH\"]", " [\"total\",\"ETH\"]"),
         (
+            "[\"observe\",\"alice\",\"ETH/USD\"]",
+            "[\"\\u006fbserve\",\"alice\",\"ETH/USD\"]",
+        ),
+        ("[\"average\",1,2]", "[\"average\",  1,2]"),
+        (
+            "[\"consult\",1,2,\"ETH\",3000]",
+            "[\"consult\",1,2,\"\\u0045TH\",3000]",
+        ),
+        (
+            "[\"window\",\"ETH/USD:10\",30]",
+            "[\"window\",\"ETH/USD:10\",30 ]",
+        ),
+        (
             "[\"transfer\",\"alice\",\"ETH\",\"bob\",4503599627370495]",
             "[\"tr\\u0061nsfer\",\"alice\",\"ETH\",\"bob\",4503599627370495]",
         ),
