@@ -47,3 +47,7 @@ answer_prop (answers.Settle delivered) = Unit-prop
 answer_prop (answers.Pool pair b0 b1 supply) = Unit-prop
 answer_prop (answers.Balance n) = Unit-prop
 answer_prop (answers.Total n) = Unit-prop
+answer_prop (answers.Observe number observation) = Unit-prop
+answer_prop (answers.Average averages) = Unit-prop
+answer_prop (answers.Consult n) = Unit-prop
+answer_prop (answers.Window found) = Unit-prop

@@ -39,6 +39,10 @@ answer_plain line (answers.Certificate quote) = (refl, (refl, (certificate_plain
 answer_plain line (answers.Pool pair b0 b1 supply) = (refl, (refl, (refl, (refl, (refl, (refl, (refl, (refl, (refl, (refl, (refl, tt)))))))))))
 answer_plain line (answers.Balance n) = (refl, (refl, (refl, tt)))
 answer_plain line (answers.Total n) = (refl, (refl, (refl, tt)))
+answer_plain line (answers.Observe number observation) = (refl, (refl, (refl, (refl, (refl, (refl, tt))))))
+answer_plain line (answers.Average averages) = (refl, (refl, (refl, (refl, tt))))
+answer_plain line (answers.Consult n) = (refl, (refl, (refl, tt)))
+answer_plain line (answers.Window found) = (refl, (refl, (refl, (refl, (refl, (refl, tt))))))
 
 pub reply_plain : (reply : Reply) → has_float (reply_value reply) ≡ false
 reply_plain reply = list_plain (whole reply.line ∷ verdict reply.answer) (answer_plain reply.line reply.answer)

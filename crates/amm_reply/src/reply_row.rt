@@ -11,7 +11,9 @@ ghost use Rattle.amm_cert.proofs.OneProof.{answer_prop};
 
 use amm_cert::quote::{send_legs, send_prices};
 use amm_cert::send_certificate;
-use amm_model::{Answer, PairRecord, PoolName, Quote, Refusal};
+use amm_model::{
+    Answer, Averages, Observation, PairRecord, PoolName, Quote, Refusal, WindowAnswer,
+};
 use amm_text::{send_numbers, send_pool, send_wide};
 use serde::{Described, Serialize, Serializer};
 
@@ -68,6 +70,13 @@ impl Serialize for ReplyRow<'_> {
             } => pool(line, pair, *b0, *b1, *supply, out),
             Answer::Balance { n } => accepted(line, &[*n], out),
             Answer::Total { n } => accepted(line, &[*n], out),
+            Answer::Observe {
+                number,
+                observation,
+            } => observed(line, *number, observation, out),
+            Answer::Average(averages) => averaged(line, averages, out),
+            Answer::Consult { n } => accepted(line, &[*n], out),
+            Answer::Window(found) => window(line, found, out),
         }
     }
 }
@@ -181,5 +190,50 @@ fn pool<S: Serializer>(
     out.u64(u64::from(pair.last))?;
     send_wide(pair.acc0, out)?;
     send_wide(pair.acc1, out)?;
+    out.end_seq()
+}
+
+/// The number of an observation, its time, and the accumulators of token 0 and token 1.
+fn observed<S: Serializer>(
+    line: u64,
+    number: u64,
+    observation: &Observation,
+    out: &mut S,
+) -> Result<(), S::Error>
+    ensures { OnOk result (SendsValue (list (whole line ∷ string (codes "ok") ∷ whole number
+        ∷ whole observation.now.time ∷ wide observation.now.acc0 ∷ wide observation.now.acc1
+        ∷ [])) (S.written out.old) (S.written out.new)) }
+{
+    front(line, "ok", 4, out)?;
+    out.u64(number)?;
+    out.u64(observation.time)?;
+    send_wide(observation.acc0, out)?;
+    send_wide(observation.acc1, out)?;
+    out.end_seq()
+}
+
+/// The average prices of token 0 and token 1.
+fn averaged<S: Serializer>(line: u64, averages: &Averages, out: &mut S) -> Result<(), S::Error>
+    ensures { OnOk result (SendsValue (list (whole line ∷ string (codes "ok")
+        ∷ wide averages.now.price0 ∷ wide averages.now.price1 ∷ []))
+        (S.written out.old) (S.written out.new)) }
+{
+    front(line, "ok", 2, out)?;
+    send_wide(averages.price0, out)?;
+    send_wide(averages.price1, out)?;
+    out.end_seq()
+}
+
+/// The numbers of two observations, and the average prices between them.
+fn window<S: Serializer>(line: u64, found: &WindowAnswer, out: &mut S) -> Result<(), S::Error>
+    ensures { OnOk result (SendsValue (list (whole line ∷ string (codes "ok")
+        ∷ whole found.now.first ∷ whole found.now.second ∷ wide found.now.averages.price0
+        ∷ wide found.now.averages.price1 ∷ [])) (S.written out.old) (S.written out.new)) }
+{
+    front(line, "ok", 4, out)?;
+    out.u64(found.first)?;
+    out.u64(found.second)?;
+    send_wide(found.averages.price0, out)?;
+    send_wide(found.averages.price1, out)?;
     out.end_seq()
 }

@@ -1,4 +1,4 @@
-//! Each form of a reply.
+//! Each form of a reply. Those of the price oracle are in the sessions of the program's tests.
 ghost use Rattle.std.specs.Prelude.{IfOk};
 ghost use Rattle.amm_model.specs.Certificate.{IsWritable};
 ghost use Rattle.amm_model.specs.ReplyText.{CanBeWritten};

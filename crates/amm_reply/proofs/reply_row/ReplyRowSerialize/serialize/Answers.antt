@@ -56,3 +56,15 @@ returns-in-Balance g c = rw c.in-Balance.is c.accepted-in-Balance.ensures
 
 pub returns-in-Total : goal.returns-in-Total
 returns-in-Total g c = rw c.in-Total.is c.accepted-in-Total.ensures
+
+pub returns-in-Observe : goal.returns-in-Observe
+returns-in-Observe g c = rw c.in-Observe.is c.observed.ensures
+
+pub returns-in-Average : goal.returns-in-Average
+returns-in-Average g c = rw c.in-Average.is c.averaged.ensures
+
+pub returns-in-Consult : goal.returns-in-Consult
+returns-in-Consult g c = rw c.in-Consult.is c.accepted-in-Consult.ensures
+
+pub returns-in-Window : goal.returns-in-Window
+returns-in-Window g c = rw c.in-Window.is c.window.ensures
