@@ -244,4 +244,15 @@ row_back (view.pool pool) h = written_back (view.pool pool) (rw (pool_reads pool
 row_back (view.balance asset holder) h =
     written_back (view.balance asset holder) (rw (asset_reads asset h.0, holder_reads holder h.1) refl) (tt, (tt, tt)) (omega arith) (IsUtf8-are_ascii _ refl, (asset_utf8 asset h.0, (holder_utf8 holder h.1, tt)))
 row_back (view.total asset) h = written_back (view.total asset) (rw (asset_reads asset h) refl) (tt, tt) (omega arith) (IsUtf8-are_ascii _ refl, (asset_utf8 asset h, tt))
+row_back (view.observe actor pool) h =
+    written_back (view.observe actor pool) (rw (user_reads actor h.0, pool_reads pool h.1) refl) (tt, (tt, tt)) (omega arith) (IsUtf8-are_ascii _ refl, (IsUtf8-user actor h.0, (pool_utf8 pool h.1, tt)))
+row_back (view.average first second) h =
+    written_back (view.average first second) (rw (amount_reads first h.0, amount_reads second h.1) refl)
+    (amount_plain first h.0, (amount_plain second h.1, tt)) (omega arith) (IsUtf8-are_ascii _ refl, (tt, (tt, tt)))
+row_back (view.consult first second token n) h =
+    written_back (view.consult first second token n) (rw (amount_reads first h.0, amount_reads second h.1.0, token_reads token h.1.1.0, amount_reads n h.1.1.1) refl)
+    (amount_plain first h.0, (amount_plain second h.1.0, (tt, (amount_plain n h.1.1.1, tt)))) (omega arith) (IsUtf8-are_ascii _ refl, (tt, (tt, (IsUtf8-token token h.1.1.0, (tt, tt)))))
+row_back (view.window pool seconds) h =
+    written_back (view.window pool seconds) (rw (pool_reads pool h.0, amount_reads seconds h.1) refl)
+    (tt, (amount_plain seconds h.1, tt)) (omega arith) (IsUtf8-are_ascii _ refl, (pool_utf8 pool h.0, (tt, tt)))
 row_back (view.act actor m) h = act_back actor m h
