@@ -1,7 +1,8 @@
 -- What holds of verdicts.
-use Rattle.std.proofs.Common.{◌≡◌, ◌≤◌, List, length, refl, subst}
+use Rattle.std.proofs.Common.{◌≡◌, ◌≤◌, List, length, refl, subst, sym}
 use Rattle.amm_model.specs.declared.route.Quote.{Quote}
 use Rattle.amm_model.specs.Routing.{ArePrices, IsProblem, IsRoute, PoolTrade, delivered_by, open_view}
+use Rattle.amm_model.specs.SplitAnswers.{IsSplitAnswer}
 use Rattle.amm_bound.proofs.Law.{no_route_beats_bound}
 use Rattle.amm_check.specs.Verdicts.{IsVerdict}
 use Rattle.amm_check.specs.declared.verdict.Verdict.{Verdict}
@@ -24,6 +25,9 @@ one_verdict quote BadBound Yes p q = absurd (p.2 q.2)
 one_verdict quote BadBound BadRoute p q = absurd (q p.0)
 one_verdict quote BadBound BadDelivered p q = absurd (q.1 p.1)
 one_verdict quote BadBound BadBound p q = refl
+
+pub answer_right : (quote : Quote) → IsSplitAnswer quote → IsVerdict quote Yes
+answer_right quote split = (split.delivers.0, sym split.delivers.1, sym split.bound)
 
 pub unbeaten : (quote : Quote) → IsProblem quote.problem → ArePrices quote.prices → length quote.prices ≡ length quote.problem.tokens →
     IsVerdict quote Yes → (route : List PoolTrade) → IsRoute (open_view quote.problem) route → delivered_by (open_view quote.problem) route ≤ quote.bound
