@@ -7,3 +7,4 @@ pub mod Shares
 pub mod Burning
 pub mod Laters
 pub mod Straight
+pub mod Swapping

@@ -1,4 +1,3 @@
-pub mod Swapping
 pub mod Trading
 pub mod ZeroSide
 pub mod OneSide

@@ -33,11 +33,6 @@ use Rattle.amm_settle.specs.Places.{AreThere}
 use Rattle.amm_settle.proofs.Trading.{IsAsKept}
 use Rattle.amm_settle.proofs.AllLegs.{AreAsKept, AreSoundPools, IsNoPoolOf, LegsDone, legs_done}
 
--- A quote whose legs deliver its amount.
-pub record IsDeliverable (quote : Quote) : Type 0 where
-  pub problem : IsProblem quote.problem
-  pub delivers : Delivers (open_view quote.problem) quote.route.legs quote.delivered
-
 pub legs_there : (pools : List ProblemPool) (used : List ℕ) (held : Inventory) (legs : List Leg) → AreLegs pools used held legs → AreThere pools legs
 legs_there pools used held [] legal = tt
 legs_there pools used held (leg ∷ legs) legal = (legal.0.there, legs_there pools (leg.pool ∷ used) (after_leg pools held leg) legs legal.1)
@@ -76,14 +71,14 @@ all_kept ledger pools (leg ∷ legs) free kept =
     (kept_by ledger (leg_pool pools leg) _ refl f.0 k.0, all_kept ledger pools legs f.1 k.1)
 
 -- the pools of a problem
-sound_pools : (quote : Quote) → IsDeliverable quote → AreSoundPools quote.problem.pools
-sound_pools quote fits = record {
-  names = fits.problem.parts.names;
+sound_pools : (quote : Quote) → IsProblem quote.problem → AreSoundPools quote.problem.pools
+sound_pools quote sound = record {
+  names = sound.parts.names;
   each = λ place below. record {
-    apart = tokens_differ quote.problem.pools fits.problem.spelled.each place no_pool below;
+    apart = tokens_differ quote.problem.pools sound.spelled.each place no_pool below;
     fee = fee_of-is (get_or quote.problem.pools place no_pool);
-    reserves = fits.problem.parts.reserves place no_pool below;
-    balances = fits.problem.parts.balances place no_pool below;
+    reserves = sound.parts.reserves place no_pool below;
+    balances = sound.parts.balances place no_pool below;
   };
 }
 
@@ -119,7 +114,7 @@ pub record SettleDone (old : Ledger) (actor : Name) (quote : Quote) : Type 0 whe
   pub is : perform_legs old actor quote.problem.pools quote.route.legs ≡ ledger_only ledger
   pub paid : IsPaidAsQuoted old ledger actor quote
 
-module _ (old : Ledger) (actor : Name) (quote : Quote) (fits : IsDeliverable quote) where
+module _ (old : Ledger) (actor : Name) (quote : Quote) (sound : IsProblem quote.problem) (delivers : Delivers (open_view quote.problem) quote.route.legs quote.delivered) where
   abbrev have : Ledger → Name → ℕ
   have ledger y = balance ledger (assets.Token y) (holders.User actor)
 
@@ -127,14 +122,14 @@ module _ (old : Ledger) (actor : Name) (quote : Quote) (fits : IsDeliverable quo
   pub legs_pay : any_locked old (pools_of_legs quote) ≡ false → all_as_kept old (pools_of_legs quote) ≡ true → nat_lt (have old quote.problem.s) quote.problem.d ≡ false → SettleDone old actor quote
   legs_pay free kept funded =
       let funds : quote.problem.d ≤ have old quote.problem.s = grind (arith, nat_tests) in
-      let legs = legs_done quote.problem.pools (sound_pools quote fits) quote.route.legs [] (amount_given (open_view quote.problem)) actor old fits.delivers.0
+      let legs = legs_done quote.problem.pools (sound_pools quote sound) quote.route.legs [] (amount_given (open_view quote.problem)) actor old delivers.0
       (all_kept old quote.problem.pools quote.route.legs free kept) (given_funded quote (have old) funds) in
-      let apart : quote.problem.s ≢ quote.problem.t = fits.problem.parts.apart 0 (record { token = quote.problem.s; amount = quote.problem.d }) (omega arith) in
+      let apart : quote.problem.s ≢ quote.problem.t = sound.parts.apart 0 (record { token = quote.problem.s; amount = quote.problem.d }) (omega arith) in
       record {
         ledger = legs.ledger;
         is = legs.is;
         paid = record {
-          gets = omega (arith, legs.tokens quote.problem.t, given_other quote quote.problem.t (λ e. apart (sym e)), fits.delivers.1);
+          gets = omega (arith, legs.tokens quote.problem.t, given_other quote quote.problem.t (λ e. apart (sym e)), delivers.1);
           pays = omega (arith, legs.tokens quote.problem.s, given_same quote);
           keeps = keeps legs;
           others = λ any who user none. legs.others any who user (no_pool_of who quote.problem.pools quote.route.legs none);
@@ -166,40 +161,40 @@ pub not_both : {A : Type 0} (x : A) (why : Refusal) → (◌≡◌ {A = Result A
 not_both x why e = cc
 
 -- no code of a leg ever comes
-pub settle_codes : (old : Ledger) (actor : Name) (quote : Quote) (deadline : ℕ) → IsDeliverable quote → (why : Refusal) → settle old actor quote deadline ≡ Err why → IsCodeOfSettling why
+pub settle_codes : (old : Ledger) (actor : Name) (quote : Quote) (deadline : ℕ) → IsProblem quote.problem → Delivers (open_view quote.problem) quote.route.legs quote.delivered → (why : Refusal) → settle old actor quote deadline ≡ Err why → IsCodeOfSettling why
 unfolding settle
-settle_codes old actor quote deadline fits why is =
+settle_codes old actor quote deadline sound delivers why is =
     four_codes (nat_lt deadline old.time) (any_locked old (pools_of_legs quote)) (not (all_as_kept old (pools_of_legs quote)))
     (nat_lt (balance old (assets.Token quote.problem.s) (holders.User actor)) quote.problem.d) _
-    (λ free kept funded other e. (let d = legs_pay old actor quote fits free (not_true _ kept) funded in
+    (λ free kept funded other e. (let d = legs_pay old actor quote sound delivers free (not_true _ kept) funded in
     let f : (perform_legs old actor quote.problem.pools quote.route.legs >>= λ performed. Ok (record { ledger = performed.ledger; answer = quote.delivered })) ≡ Err other = e in
     not_both _ other (rw (d.is) at f)))
     why is
 
 -- An accepted settlement tells what the quote delivers, and pays it.
-pub settle_paid : (old : Ledger) (actor : Name) (quote : Quote) (deadline : ℕ) (made : Made ℕ) → IsDeliverable quote → settle old actor quote deadline ≡ Ok made
+pub settle_paid : (old : Ledger) (actor : Name) (quote : Quote) (deadline : ℕ) (made : Made ℕ) → IsProblem quote.problem → Delivers (open_view quote.problem) quote.route.legs quote.delivered → settle old actor quote deadline ≡ Ok made
     → (made.answer ≡ quote.delivered) × IsPaidAsQuoted old made.ledger actor quote
 unfolding settle
-settle_paid old actor quote deadline made fits is =
+settle_paid old actor quote deadline made sound delivers is =
     let timely = not_refused (nat_lt deadline old.time) code.Expired _ made is in
     let free = not_refused (any_locked old (pools_of_legs quote)) code.Locked _ made timely.1 in
     let kept = not_refused (not (all_as_kept old (pools_of_legs quote))) code.Stale _ made free.1 in
     let funded = not_refused (nat_lt (balance old (assets.Token quote.problem.s) (holders.User actor)) quote.problem.d) code.Funds _ made kept.1 in
-    let d = legs_pay old actor quote fits free.0 (not_true _ kept.0) funded.0 in
+    let d = legs_pay old actor quote sound delivers free.0 (not_true _ kept.0) funded.0 in
     let e = same_answer (record { ledger = d.ledger; answer = quote.delivered }) made (rw (d.is) at funded.1) in (
       ap (λ (m : Made ℕ). m.answer) (sym e),
       subst (λ (l : Ledger). IsPaidAsQuoted old l actor quote) (ap (λ (m : Made ℕ). m.ledger) e) d.paid,
     )
 
 -- One that has to be accepted is.
-pub settle_due : (old : Ledger) (actor : Name) (quote : Quote) (deadline : ℕ) → IsDeliverable quote → IsDue old actor quote deadline
+pub settle_due : (old : Ledger) (actor : Name) (quote : Quote) (deadline : ℕ) → IsProblem quote.problem → Delivers (open_view quote.problem) quote.route.legs quote.delivered → IsDue old actor quote deadline
     → (made : Made ℕ) × (settle old actor quote deadline ≡ Ok made) × (made.answer ≡ quote.delivered)
 unfolding settle
-settle_due old actor quote deadline fits due =
+settle_due old actor quote deadline sound delivers due =
     let timely : nat_lt deadline old.time ≡ false = le-ltb deadline old.time due.in_time in
     let funded : nat_lt (balance old (assets.Token quote.problem.s) (holders.User actor)) quote.problem.d ≡ false =
     le-ltb (balance old (assets.Token quote.problem.s) (holders.User actor)) quote.problem.d due.funds in
-    let d = legs_pay old actor quote fits due.free due.kept funded in
+    let d = legs_pay old actor quote sound delivers due.free due.kept funded in
     (record { ledger = d.ledger; answer = quote.delivered }, rw (timely, due.free, due.kept, funded, d.is) refl, refl)
 
 -- a call that met its definition was refused as the definition is

@@ -14,7 +14,7 @@ use Rattle.amm_names.specs.Names.{Name}
 use Rattle.amm_model.proofs.Soundness.{tokens_apart}
 use Rattle.amm_model.proofs.Swap.{fee_range, amount_out-lt}
 use Rattle.amm_model.proofs.Moved.{Moved, moved_moved, transfer_made}
-use Rattle.amm_settle.proofs.Swapping.{CanSwap, SwapDone, swap_done}
+use Rattle.amm_pair.proofs.Swapping.{CanSwap, SwapDone, swap_done}
 use Rattle.amm_model.proofs.Rule.{rule_kept}
 use Rattle.amm_settle.proofs.Trading.{IsAsKept, IsSoundPool, IsTraded, TradeDone, untouched, other_pairs}
 

@@ -3,7 +3,7 @@ use Rattle.std.proofs.Common.{◌≡◌, ℕ, ◌≤◌, List, arith, subst}
 use Rattle.std.specs.Prelude.{sum_by}
 use Rattle.amm_model.specs.declared.route.Leg.{Leg}
 use Rattle.amm_model.specs.declared.route.Quote.{Quote}
-use Rattle.amm_model.specs.Routing.{ProblemView, open_view}
+use Rattle.amm_model.specs.Routing.{IsProblem, ProblemView, open_view}
 use Rattle.amm_model.specs.Legs.{Delivers}
 use Rattle.amm_model.specs.Bound.{bound_of}
 use Rattle.amm_model.specs.Settled.{IsSettled}
@@ -38,9 +38,10 @@ pub ways_still : (problem : ProblemView) (less amount : ℕ) → less ≤ amount
 ways_still problem less amount more at value is = let least = at value is in omega arith
 
 -- a quote of the problem that has all that an answer needs
-pub answers : (problem : ProblemView) (quote : Quote) → quote.problem ≡ problem → IsSettled (open_view problem) quote.prices → quote.bound ≡ bound_of (open_view problem) quote.prices →
+pub answers : (problem : ProblemView) (quote : Quote) → IsProblem problem → quote.problem ≡ problem → IsSettled (open_view problem) quote.prices → quote.bound ≡ bound_of (open_view problem) quote.prices →
     Delivers (open_view problem) quote.route.legs quote.delivered → AtLeastTheWays problem.pools problem.s problem.t problem.d quote.delivered → AtLeastSpreads problem quote.prices quote.delivered → IsSplitAnswer quote
-answers problem quote same settled bound delivers ways spreads = record {
+answers problem quote sound same settled bound delivers ways spreads = record {
+  problem = rw same sound;
   settled = rw same settled;
   bound = rw same bound;
   delivers = rw same delivers;

@@ -38,6 +38,7 @@ fn quoted(
     ensures problem { IfOk result (λ quote. quote.problem ≡ problem.now) }
     ensures answer { IfOk result (λ quote. IsSplitAnswer quote) }
 {
+    let _sound = problem.d();
     let plan = planned(alloc, problem.as_open())?;
     let prices = settle(alloc, problem.as_open(), &plan)?;
     let kept = best_of(problem.as_open(), found, plan.legs);

@@ -16,18 +16,18 @@ settle_over-requires-clause-there c =
 pub returns-clause-paid : goal.returns-clause-paid
 returns-clause-paid c =
     on_ok (λ (l : Ledger). IsPaidAsQuoted c.args.tx.now.present l c.args.actor.now c.args.quote.now) _ _ _ _ c.settle_over.ensures.meets
-    (λ made is. (settle_paid _ _ _ _ made (record { problem = c.pools-pools.ensures.sound; delivers = c.requires.delivers }) is).1)
+    (λ made is. (settle_paid _ _ _ _ made c.pools-pools.ensures.sound c.requires.delivers is).1)
 
 pub returns-clause-codes : goal.returns-clause-codes
 returns-clause-codes c why is =
-    settle_codes _ _ _ _ (record { problem = c.pools-pools.ensures.sound; delivers = c.requires.delivers }) why (refused_so _ _ _ _ c.settle_over.ensures.meets why is)
+    settle_codes _ _ _ _ c.pools-pools.ensures.sound c.requires.delivers why (refused_so _ _ _ _ c.settle_over.ensures.meets why is)
 
 pub returns-clause-told : goal.returns-clause-told
 returns-clause-told c =
     if_ok (λ (l : Ledger) (delivered : ℕ). delivered ≡ c.args.quote.now.delivered) _ _ _ _ c.settle_over.ensures.meets
-    (λ made is. (settle_paid _ _ _ _ made (record { problem = c.pools-pools.ensures.sound; delivers = c.requires.delivers }) is).0)
+    (λ made is. (settle_paid _ _ _ _ made c.pools-pools.ensures.sound c.requires.delivers is).0)
 
 pub returns-clause-due : goal.returns-clause-due
 returns-clause-due c why is due =
-    let made = settle_due _ _ _ _ (record { problem = c.pools-pools.ensures.sound; delivers = c.requires.delivers }) due in
+    let made = settle_due _ _ _ _ c.pools-pools.ensures.sound c.requires.delivers due in
     not_both _ why (sym made.1 ∙ refused_so _ _ _ _ c.settle_over.ensures.meets why is)
