@@ -54,9 +54,7 @@ fn send_at(
     requires { tx.old.mark ≡ Mark.Clean }
     ensures { Meets tx.old tx.new result (send tx.old.present actor.now asset.now to.now n) }
 {
-    if let Err(why) = known(tx.book(), asset) {
-        return Err(tx.refuse(why));
-    }
+    tx.admit(known(tx.book(), asset))?;
     tx.move_units(alloc, asset, &Holder::User(*actor), to, n)?;
     Ok(Answer::Transfer)
 }
