@@ -19,6 +19,8 @@ use Rattle.amm_model.specs.Routing.{ProblemView, IsProblem, no_pool, one_part, t
 use Rattle.amm_model.proofs.Problems.{no_part}
 use Rattle.amm_model.specs.Legs.{leg_pool, token_in}
 use Rattle.amm_model.specs.Certificate.{pool_value, price_value, leg_value, prices_value, legs_value, versioned_value, certificate_text, IsVersionFor, IsWritable, IsCertifiable, IsCertificateOf}
+use Rattle.amm_model.specs.SplitAnswers.{IsSplitAnswer}
+use Rattle.amm_model.proofs.Certifiable.{split_certifiable}
 use Rattle.amm_cert.proofs.Plain.{IsPlain, ArePlain}
 use Rattle.amm_cert.proofs.Ascii.{IsUtf8-token, IsUtf8-pool}
 use Rattle.amm_cert.proofs.Forms.{by_items}
@@ -164,3 +166,7 @@ text_certifies v q known ok = record {
 pub written_certifies : (q : Quote) → IsCertifiable q → IsCertificateOf (certificate_text q) q
 unfolding certificate_text
 written_certifies q ok = text_certifies 2 q (inr refl) ok
+
+-- the text of an answer to a split
+pub answer_certifies : (q : Quote) → IsSplitAnswer q → IsCertificateOf (certificate_text q) q
+answer_certifies q split = written_certifies q (split_certifiable q split)
