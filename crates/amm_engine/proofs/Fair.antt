@@ -1,20 +1,19 @@
 -- What every accepted command keeps, and so every line.
-use Rattle.std.proofs.Common.{◌≡◌, ◌≤◌, ◌∷◌, ◌∙◌, ℕ, List, [], Result, Ok, Err, length, nat_lt, nat_le, Bool, true, false, sym, ap, subst, refl, arith}
-use Rattle.std.specs.Prelude.{All, MatchResult, ok_or, if◌then◌else◌}
+use Rattle.std.proofs.Common.{◌≡◌, ◌≤◌, ◌∷◌, ◌∙◌, ℕ, List, [], Result, Ok, Err, sym, ap, subst, refl, arith}
+use Rattle.std.specs.Prelude.{MatchResult, ok_or}
 use Rattle.amm_names.specs.declared.holder.Holder.TheVariants as holders
 use Rattle.amm_names.specs.declared.holder.Asset.TheVariants as assets
 use Rattle.amm_model.specs.declared.fault.Refusal.{Refusal}
 use Rattle.amm_model.specs.declared.fault.Refusal.TheVariants as code
-use Rattle.amm_model.specs.declared.limits.TheConstants.{TOKEN_LIMIT}
 use Rattle.amm_model.specs.declared.line.Line.TheVariants.{Whole, Long}
 use Rattle.amm_model.specs.declared.reply.Answer.{Answer}
 use Rattle.amm_model.specs.declared.reply.Answer.TheVariants as answers
 use Rattle.amm_model.specs.declared.reply.Reply.{Reply}
 use Rattle.amm_model.specs.declared.route.Quote.{Quote}
-use Rattle.amm_model.specs.Outcome.{Made, Outcome, ledger_only}
-use Rattle.amm_model.specs.Ledger.{Ledger, is_listed, pair_of, quote_of, with_quote}
+use Rattle.amm_model.specs.Outcome.{Made, Outcome}
+use Rattle.amm_model.specs.Ledger.{Ledger, pair_of, quote_of, with_quote}
 use Rattle.amm_model.specs.Postings.{list_token, issue, retire, set_time}
-use Rattle.amm_model.specs.Routing.{IsProblem, delivered_by, open_view}
+use Rattle.amm_model.specs.Routing.{delivered_by, open_view}
 use Rattle.amm_model.specs.Sound.{IsSound, IsAtRest}
 use Rattle.amm_model.specs.SplitAnswers.{IsSplitAnswer}
 use Rattle.amm_model.specs.Splits.{KeepsQuote, Routes, may_split}
@@ -29,53 +28,40 @@ use Rattle.amm_model.specs.Answers.{ComesTo, answer_of, ledger_after}
 use Rattle.amm_model.specs.Reading.{command_of_line}
 use Rattle.amm_model.specs.Runs.{FairStep, IsUnbeaten, OfCommand, SettledBy, Step, one_reply, TotalsMoved, TotalsMovedBy}
 use Rattle.amm_bound.proofs.Law.{no_route_beats_bound}
-use Rattle.amm_model.proofs.Guards.{given, past_refusal, same_answer, was_some}
+use Rattle.amm_model.proofs.Certifiable.{split_writable}
+use Rattle.amm_model.proofs.Guards.{given, same_answer, was_some}
 use Rattle.amm_model.proofs.Keeping.{Keeps, plain_keeps, rest_kept}
 use Rattle.amm_model.proofs.Laters.{kept_rest}
-use Rattle.amm_model.proofs.PlainSound.{list_listed, list_plain, list_rest, list_totals, issue_added, issue_plain, issue_rest, issue_deposited, one_more, retire_plain, retire_rest, retire_withdrawn, set_time_plain, set_time_sound, set_time_totals}
-use Rattle.amm_model.proofs.Transfers.{retire_taken}
-use Rattle.amm_factory.proofs.Settings.{set_fee_to_keeps, set_fee_to_made, set_fee_to_sound, set_setter_keeps, set_setter_made, set_setter_sound}
+use Rattle.amm_model.proofs.PlainSound.{list_listed, list_plain, list_rest, list_totals, issue_plain, issue_rest, issue_deposited, retire_plain, retire_rest, retire_withdrawn, set_time_plain, set_time_sound, set_time_totals}
+use Rattle.amm_factory.proofs.Settings.{set_fee_to_keeps, set_fee_to_sound, set_setter_keeps, set_setter_sound}
 use Rattle.amm_model.proofs.Fitting.{reads_fitting}
 use Rattle.amm_script.proofs.Laws.{step_kept}
-use Rattle.amm_engine.specs.Ready.{IsReady}
-use Rattle.amm_engine.proofs.KeptQuotes.{quote_has, ready_with, room_for_quote}
+use Rattle.amm_script.proofs.Settlements.{quote_has}
+use Rattle.amm_engine.proofs.KeptQuotes.{rest_with, room_for_quote}
 use Rattle.amm_engine.proofs.Settling.{settled}
 use Rattle.amm_engine.proofs.Told.{IsAccepted, step_told}
-use Rattle.amm_engine.proofs.Writable.{split_writable}
 
 -- What holds after a command that was accepted.
 pub record Promised (asked : CommandView) (old new : Ledger) (answer : Answer) : Type 0 where
-  pub ready : IsReady new
+  pub rest : IsAtRest new
   pub zero : ZeroKept old new
   pub totals : TotalsMoved asked answer old new
   pub told : IsAccepted answer
 
--- the same quotes are kept
-same_quotes : (old new : Ledger) → new.quotes ≡ old.quotes → IsAtRest new → IsReady old → IsReady new
-same_quotes old new same rest ready = record { rest = rest; problems = subst (All (λ (q : Quote). IsProblem q.problem)) (sym same) ready.problems }
-
--- what leaves the totals of tokens and the quotes alone
-promised_by : (asked : CommandView) (old : Ledger) (made : Made Answer) → IsReady old → Keeps old made.ledger → made.ledger.quotes ≡ old.quotes → (IsSound old → IsSound made.ledger)
+-- what leaves the totals of tokens alone
+promised_by : (asked : CommandView) (old : Ledger) (made : Made Answer) → IsAtRest old → Keeps old made.ledger → (IsSound old → IsSound made.ledger)
     → (TokenTotalsKept old made.ledger → TotalsMoved asked made.answer old made.ledger) → IsAccepted made.answer → Promised asked old made.ledger made.answer
-promised_by asked old made ready keeps same sound totals told = record {
-  ready = same_quotes old made.ledger same (rest_kept old made.ledger ready.rest keeps.no_other (sound ready.rest.sound)) ready;
+promised_by asked old made rest keeps sound totals told = record {
+  rest = rest_kept old made.ledger rest keeps.no_other (sound rest.sound);
   zero = keeps.zero;
   totals = totals keeps.totals;
   told = told;
 }
 
-list_quotes : (old : Ledger) (token : List ℕ) (made : Made (Unit {0})) → list_token old token ≡ Ok made → made.ledger.quotes ≡ old.quotes
-list_quotes old token made is = by (is_listed old.tokens token) (nat_le TOKEN_LIMIT (length old.tokens)) is
-  where
-    by : (here full : Bool) → (if here then ledger_only old else (if full then Err code.TokenLimit else ledger_only (one_more old token))) ≡ Ok made → made.ledger.quotes ≡ old.quotes
-    by true full e = ap (λ (m : Made (Unit {0})). m.ledger.quotes) (sym (same_answer (record { ledger = old; answer = tt }) made e))
-    by false true e = cc
-    by false false e = ap (λ (m : Made (Unit {0})). m.ledger.quotes) (sym (same_answer (record { ledger = one_more old token; answer = tt }) made e))
-
-deposit_promised : (old : Ledger) (user token : List ℕ) (n : ℕ) (made : Made Answer) → IsReady old → deposit old user token n ≡ Ok made
+deposit_promised : (old : Ledger) (user token : List ℕ) (n : ℕ) (made : Made Answer) → IsAtRest old → deposit old user token n ≡ Ok made
     → Promised (command.deposit user token n) old made.ledger made.answer
 unfolding deposit
-deposit_promised old user token n made ready is =
+deposit_promised old user token n made rest is =
     let first = given (list_token old token) _ made is in
     let mid : Ledger = first.value.ledger in
     let second = given (issue mid (assets.Token token) (holders.User user) n) _ made first.after in
@@ -84,127 +70,116 @@ deposit_promised old user token n made ready is =
     let one = list_plain old token first.value first.was in
     let two = issue_plain mid token (holders.User user) n second.value second.was in
     let here = (list_listed old token first.value first.was).here in
-    let quotes = (issue_added mid (assets.Token token) (holders.User user) n second.value second.was).1.rest.quotes ∙ list_quotes old token first.value first.was in
-    let rest = issue_rest mid token (holders.User user) n second.value second.was here (list_rest old token first.value first.was ready.rest) in
     subst (λ (k : Made Answer). Promised (command.deposit user token n) old k.ledger k.answer) (same_answer _ made second.after) (record {
-      ready = same_quotes old second.value.ledger quotes rest ready;
+      rest = issue_rest mid token (holders.User user) n second.value second.was here (list_rest old token first.value first.was rest);
       zero = λ q. omega (arith, one.zero q, two.zero q);
       totals = record { here = omega (arith, paid.here, same token); others = λ other apart. paid.others other apart ∙ same other };
       told = record { accepted = λ why e. cc; written = tt; unbeaten = tt };
     })
 
-withdraw_promised : (old : Ledger) (user token : List ℕ) (n : ℕ) (made : Made Answer) → IsReady old → withdraw old user token n ≡ Ok made
+withdraw_promised : (old : Ledger) (user token : List ℕ) (n : ℕ) (made : Made Answer) → IsAtRest old → withdraw old user token n ≡ Ok made
     → Promised (command.withdraw user token n) old made.ledger made.answer
 unfolding withdraw
-withdraw_promised old user token n made ready is =
+withdraw_promised old user token n made rest is =
     let first = given (known_asset old (assets.Token token)) _ made is in
     let second = given (retire old (assets.Token token) (holders.User user) n) _ made first.after in
-    let quotes = (retire_taken old (assets.Token token) (holders.User user) n second.value second.was).1.rest.quotes in
     subst (λ (k : Made Answer). Promised (command.withdraw user token n) old k.ledger k.answer) (same_answer _ made second.after) (record {
-      ready = same_quotes old second.value.ledger quotes (retire_rest old token user n second.value second.was ready.rest) ready;
+      rest = retire_rest old token user n second.value second.was rest;
       zero = (retire_plain old token user n second.value second.was).zero;
       totals = retire_withdrawn old token user n second.value second.was;
       told = record { accepted = λ why e. cc; written = tt; unbeaten = tt };
     })
 
 -- a query, where it may be answered, changes nothing
-asked_only : {A : Type 0} (asked : CommandView) (old : Ledger) (first : Result A Refusal) (answer : A → Answer) (made : Made Answer) → IsReady old
+asked_only : {A : Type 0} (asked : CommandView) (old : Ledger) (first : Result A Refusal) (answer : A → Answer) (made : Made Answer) → IsAtRest old
     → ((x : A) → TotalsMoved asked (answer x) old old) → ((x : A) → first ≡ Ok x → IsAccepted (answer x)) → query old answer first ≡ Ok made
     → Promised asked old made.ledger made.answer
-asked_only asked old first answer made ready totals accepted is =
+asked_only asked old first answer made rest totals accepted is =
     let found = given first _ made is in
     subst (λ (k : Made Answer). Promised asked old k.ledger k.answer) (same_answer _ made found.after)
-    (record { ready = ready; zero = λ q. omega arith; totals = totals found.value; told = accepted found.value found.was })
+    (record { rest = rest; zero = λ q. omega arith; totals = totals found.value; told = accepted found.value found.was })
 
 -- what an operation that has nothing to tell leaves
-plain_promised : {A : Type 0} (asked : CommandView) (answer : Answer) (old : Ledger) (outcome : Outcome A) (made : Made Answer) → IsReady old
-    → ((done : Made A) → outcome ≡ Ok done → Keeps old done.ledger) → ((done : Made A) → outcome ≡ Ok done → done.ledger.quotes ≡ old.quotes)
+plain_promised : {A : Type 0} (asked : CommandView) (answer : Answer) (old : Ledger) (outcome : Outcome A) (made : Made Answer) → IsAtRest old
+    → ((done : Made A) → outcome ≡ Ok done → Keeps old done.ledger)
     → ((done : Made A) → outcome ≡ Ok done → IsSound old → IsSound done.ledger) → ((new : Ledger) → TokenTotalsKept old new → TotalsMoved asked answer old new) → IsAccepted answer
     → outcome_with answer outcome ≡ Ok made → Promised asked old made.ledger made.answer
-plain_promised asked answer old outcome made ready keeps quotes sound totals accepted is =
+plain_promised asked answer old outcome made rest keeps sound totals accepted is =
     let first = given outcome _ made is in
     let told : Made Answer = record { ledger = first.value.ledger; answer = answer } in
     subst (λ (k : Made Answer). Promised asked old k.ledger k.answer) (same_answer _ made first.after)
-    (promised_by asked old told ready (keeps first.value first.was) (quotes first.value first.was) (sound first.value first.was) (totals first.value.ledger) accepted)
-
-time_quotes : (old : Ledger) (n : ℕ) (made : Made (Unit {0})) → set_time old n ≡ Ok made → made.ledger.quotes ≡ old.quotes
-time_quotes old n made is =
-    let past = past_refusal (nat_lt n old.time) code.TimeBack (ledger_only (record old { time = n })) made is in
-    ap (λ (m : Made (Unit {0})). m.ledger.quotes) (sym (same_answer (record { ledger = record old { time = n }; answer = tt }) made past.1))
+    (promised_by asked old told rest (keeps first.value first.was) (sound first.value first.was) (totals first.value.ledger) accepted)
 
 -- what a kept quote leaves
-quote_promised : (old : Ledger) (s t : List ℕ) (d : ℕ) (made : Made Answer) (ok : Unit {0}) → IsReady old → may_split old s t d ≡ Ok ok → KeepsQuote old s t d made
+quote_promised : (old : Ledger) (s t : List ℕ) (d : ℕ) (made : Made Answer) (ok : Unit {0}) → IsAtRest old → may_split old s t d ≡ Ok ok → KeepsQuote old s t d made
     → Promised (command.split s t d) old made.ledger made.answer
-quote_promised old s t d made ok ready may keeps =
+quote_promised old s t d made ok rest may keeps =
     let quote = keeps.quote in
-    let sound : IsProblem quote.problem = keeps.problem.sound.sound in
     let split = keeps.split in
     subst (λ (l : Ledger). Promised (command.split s t d) old l made.answer) (sym keeps.kept)
     (subst (λ (a : Answer). Promised (command.split s t d) old (with_quote old quote) a) (sym keeps.told) (record {
-      ready = ready_with old quote (room_for_quote old s t d ok may) sound split ready;
+      rest = rest_with old quote (room_for_quote old s t d ok may) split rest;
       zero = λ q. omega arith;
       totals = λ token. refl;
       told = record {
         accepted = λ why e. cc;
-        written = split_writable quote sound split;
+        written = split_writable quote split;
         unbeaten = λ route is_route. subst (λ (bound : ℕ). delivered_by (open_view quote.problem) route ≤ bound) (sym split.bound)
-            (no_route_beats_bound (open_view quote.problem) quote.prices route sound split.settled.as_many split.settled.ranges is_route);
+            (no_route_beats_bound (open_view quote.problem) quote.prices route split.problem split.settled.as_many split.settled.ranges is_route);
       };
     }))
 
-split_promised : (old : Ledger) (s t : List ℕ) (d : ℕ) (made : Made Answer) (may : Result (Unit {0}) Refusal) → IsReady old → may_split old s t d ≡ may
+split_promised : (old : Ledger) (s t : List ℕ) (d : ℕ) (made : Made Answer) (may : Result (Unit {0}) Refusal) → IsAtRest old → may_split old s t d ≡ may
     → MatchResult may (λ _. Routes old s t d (Ok made)) (λ why. Ok made ≡ Err why) → Promised (command.split s t d) old made.ledger made.answer
-split_promised old s t d made (Ok ok) ready is comes = quote_promised old s t d made ok ready is comes
-split_promised old s t d made (Err why) ready is comes = cc
+split_promised old s t d made (Ok ok) rest is comes = quote_promised old s t d made ok rest is comes
+split_promised old s t d made (Err why) rest is comes = cc
 
-certificate_accepted : (old : Ledger) (number : ℕ) (quote : Quote) → IsReady old → ok_or (quote_of old.quotes number) code.NoQuote ≡ Ok quote → IsAccepted (answers.Certificate quote)
-certificate_accepted old number quote ready is =
+certificate_accepted : (old : Ledger) (number : ℕ) (quote : Quote) → IsAtRest old → ok_or (quote_of old.quotes number) code.NoQuote ≡ Ok quote → IsAccepted (answers.Certificate quote)
+certificate_accepted old number quote rest is =
     let there = was_some (quote_of old.quotes number) code.NoQuote quote is in
-    let sound = quote_has (λ (q : Quote). IsProblem q.problem) old.quotes number quote ready.problems there in
-    let split = quote_has IsSplitAnswer old.quotes number quote ready.rest.sound.answers there in
-    record { accepted = λ why e. cc; written = split_writable quote sound split; unbeaten = tt }
+    record { accepted = λ why e. cc; written = split_writable quote (quote_has IsSplitAnswer old.quotes number quote rest.sound.answers there); unbeaten = tt }
 
 -- what every accepted command promises
-pub promised : (old : Ledger) (asked : CommandView) (made : Made Answer) → Fits asked → IsReady old → MayComeTo old asked (Ok made) → Promised asked old made.ledger made.answer
+pub promised : (old : Ledger) (asked : CommandView) (made : Made Answer) → Fits asked → IsAtRest old → MayComeTo old asked (Ok made) → Promised asked old made.ledger made.answer
 unfolding MayComeTo
-promised old (command.deposit user token n) made fits ready is = deposit_promised old user token n made ready is
-promised old (command.withdraw user token n) made fits ready is = withdraw_promised old user token n made ready is
-promised old (command.time n) made fits ready is =
-    plain_promised (command.time n) answers.Time old (set_time old n) made ready
-    (λ done was. plain_keeps old done.ledger (set_time_plain old n done was) (set_time_totals old n done was)) (time_quotes old n) (λ done was sound. set_time_sound old n done was fits sound)
+promised old (command.deposit user token n) made fits rest is = deposit_promised old user token n made rest is
+promised old (command.withdraw user token n) made fits rest is = withdraw_promised old user token n made rest is
+promised old (command.time n) made fits rest is =
+    plain_promised (command.time n) answers.Time old (set_time old n) made rest
+    (λ done was. plain_keeps old done.ledger (set_time_plain old n done was) (set_time_totals old n done was)) (λ done was sound. set_time_sound old n done was fits sound)
     (λ new same. same) (record { accepted = λ why e. cc; written = tt; unbeaten = tt }) is
-promised old (command.fee_to actor to) made fits ready is =
-    plain_promised (command.fee_to actor to) answers.FeeTo old (set_fee_to old actor to) made ready
-    (set_fee_to_keeps old actor to) (λ done was. ap (λ (l : Ledger). l.quotes) (set_fee_to_made old actor to done was)) (set_fee_to_sound old actor to) (λ new same. same)
+promised old (command.fee_to actor to) made fits rest is =
+    plain_promised (command.fee_to actor to) answers.FeeTo old (set_fee_to old actor to) made rest
+    (set_fee_to_keeps old actor to) (set_fee_to_sound old actor to) (λ new same. same)
     (record { accepted = λ why e. cc; written = tt; unbeaten = tt }) is
-promised old (command.setter actor to) made fits ready is =
-    plain_promised (command.setter actor to) answers.Setter old (set_setter old actor to) made ready
-    (set_setter_keeps old actor to) (λ done was. ap (λ (l : Ledger). l.quotes) (set_setter_made old actor to done was)) (set_setter_sound old actor to) (λ new same. same)
+promised old (command.setter actor to) made fits rest is =
+    plain_promised (command.setter actor to) answers.Setter old (set_setter old actor to) made rest
+    (set_setter_keeps old actor to) (set_setter_sound old actor to) (λ new same. same)
     (record { accepted = λ why e. cc; written = tt; unbeaten = tt }) is
-promised old (command.pool p) made fits ready is =
-    asked_only (command.pool p) old (ok_or (pair_of old.pairs p) code.NoPair) (pool_answer old p) made ready
+promised old (command.pool p) made fits rest is =
+    asked_only (command.pool p) old (ok_or (pair_of old.pairs p) code.NoPair) (pool_answer old p) made rest
     (λ x token. refl) (λ x was. record { accepted = λ why e. cc; written = tt; unbeaten = tt }) is
-promised old (command.balance asset holder) made fits ready is =
-    asked_only (command.balance asset holder) old (known_asset old asset) _ made ready (λ x token. refl) (λ x was. record { accepted = λ why e. cc; written = tt; unbeaten = tt }) is
-promised old (command.total asset) made fits ready is =
-    asked_only (command.total asset) old (known_asset old asset) _ made ready (λ x token. refl) (λ x was. record { accepted = λ why e. cc; written = tt; unbeaten = tt }) is
-promised old (command.act actor step) made fits ready is =
+promised old (command.balance asset holder) made fits rest is =
+    asked_only (command.balance asset holder) old (known_asset old asset) _ made rest (λ x token. refl) (λ x was. record { accepted = λ why e. cc; written = tt; unbeaten = tt }) is
+promised old (command.total asset) made fits rest is =
+    asked_only (command.total asset) old (known_asset old asset) _ made rest (λ x token. refl) (λ x was. record { accepted = λ why e. cc; written = tt; unbeaten = tt }) is
+promised old (command.act actor step) made fits rest is =
     let kept = step_kept step old actor made fits.0 fits.1 is in record {
-      ready = same_quotes old made.ledger kept.later.quotes (kept_rest old made.ledger kept ready.rest) ready;
+      rest = kept_rest old made.ledger kept rest;
       zero = kept.zero;
       totals = kept.later.totals;
       told = step_told old actor step made is;
     }
-promised old (command.quote_out path n) made fits ready is =
-    asked_only (command.quote_out path n) old (amounts_out old path n) answers.QuoteOut made ready
+promised old (command.quote_out path n) made fits rest is =
+    asked_only (command.quote_out path n) old (amounts_out old path n) answers.QuoteOut made rest
     (λ x token. refl) (λ x was. record { accepted = λ why e. cc; written = tt; unbeaten = tt }) is
-promised old (command.quote_in path n) made fits ready is =
-    asked_only (command.quote_in path n) old (amounts_in old path n) answers.QuoteIn made ready
+promised old (command.quote_in path n) made fits rest is =
+    asked_only (command.quote_in path n) old (amounts_in old path n) answers.QuoteIn made rest
     (λ x token. refl) (λ x was. record { accepted = λ why e. cc; written = tt; unbeaten = tt }) is
-promised old (command.split s t d) made fits ready is = split_promised old s t d made (may_split old s t d) ready refl is
-promised old (command.certificate number) made fits ready is =
-    asked_only (command.certificate number) old (ok_or (quote_of old.quotes number) code.NoQuote) answers.Certificate made ready
-    (λ x token. refl) (λ quote was. certificate_accepted old number quote ready was) is
+promised old (command.split s t d) made fits rest is = split_promised old s t d made (may_split old s t d) rest refl is
+promised old (command.certificate number) made fits rest is =
+    asked_only (command.certificate number) old (ok_or (quote_of old.quotes number) code.NoQuote) answers.Certificate made rest
+    (λ x token. refl) (λ quote was. certificate_accepted old number quote rest was) is
 
 -- ---- lines
 
@@ -239,22 +214,22 @@ record Sides (old : Ledger) (read : Result CommandView Refusal) (outcome : Outco
   unbeaten : IsUnbeaten (answer_of outcome)
 
 -- the command of a line was tried
-asked_sides : (old : Ledger) (asked : CommandView) (outcome : Outcome Answer) → Fits asked → IsReady old → MayComeTo old asked outcome → Sides old (Ok asked) outcome
-asked_sides old asked (Ok made) fits ready comes =
-    let k = promised old asked made fits ready comes in record {
-      rest = k.ready.rest;
+asked_sides : (old : Ledger) (asked : CommandView) (outcome : Outcome Answer) → Fits asked → IsAtRest old → MayComeTo old asked outcome → Sides old (Ok asked) outcome
+asked_sides old asked (Ok made) fits rest comes =
+    let k = promised old asked made fits rest comes in record {
+      rest = k.rest;
       refused = λ why refusal. absurd (k.told.accepted why refusal);
       zero = k.zero;
       totals = k.totals;
-      settled = settled old asked (Ok made) ready comes;
+      settled = settled old asked (Ok made) rest comes;
       unbeaten = k.told.unbeaten;
     }
-asked_sides old asked (Err why) fits ready comes = record {
-  rest = ready.rest;
+asked_sides old asked (Err why) fits rest comes = record {
+  rest = rest;
   refused = λ other refusal. refl;
   zero = λ q. omega arith;
   totals = refused_totals asked why old;
-  settled = settled old asked (Err why) ready comes;
+  settled = settled old asked (Err why) rest comes;
   unbeaten = tt;
 }
 
@@ -277,24 +252,24 @@ fair_by old number bytes read outcome read_is comes sides =
     }
 
 -- a line whose bytes are no command is a fair step
-pub fair_unread : (old : Ledger) (number : ℕ) (bytes : List ℕ) (why : Refusal) → IsReady old → command_of_line bytes ≡ Err why
+pub fair_unread : (old : Ledger) (number : ℕ) (bytes : List ℕ) (why : Refusal) → IsAtRest old → command_of_line bytes ≡ Err why
     → FairStep old number (Whole bytes) (one_reply number (answers.Refused why)) old
-fair_unread old number bytes why ready is =
+fair_unread old number bytes why rest is =
     fair_by old number bytes (Err why) (Err why) is refl
-    (record { rest = ready.rest; refused = λ other refusal. refl; zero = λ q. omega arith; totals = λ name. refl; settled = tt; unbeaten = tt })
+    (record { rest = rest; refused = λ other refusal. refl; zero = λ q. omega arith; totals = λ name. refl; settled = tt; unbeaten = tt })
 
 -- a line whose bytes are a command is a fair step
-pub fair_asked : (old : Ledger) (number : ℕ) (bytes : List ℕ) (asked : CommandView) (outcome : Outcome Answer) → IsReady old → command_of_line bytes ≡ Ok asked
+pub fair_asked : (old : Ledger) (number : ℕ) (bytes : List ℕ) (asked : CommandView) (outcome : Outcome Answer) → IsAtRest old → command_of_line bytes ≡ Ok asked
     → MayComeTo old asked outcome → FairStep old number (Whole bytes) (one_reply number (answer_of outcome)) (ledger_after old outcome)
-fair_asked old number bytes asked outcome ready is comes =
-    fair_by old number bytes (Ok asked) outcome is comes (asked_sides old asked outcome (reads_fitting bytes asked is) ready comes)
+fair_asked old number bytes asked outcome rest is comes =
+    fair_by old number bytes (Ok asked) outcome is comes (asked_sides old asked outcome (reads_fitting bytes asked is) rest comes)
 
 -- a line that is too long is a fair step
-pub fair_long : (old : Ledger) (number : ℕ) → IsReady old → FairStep old number Long (one_reply number (answers.Refused code.LongLine)) old
+pub fair_long : (old : Ledger) (number : ℕ) → IsAtRest old → FairStep old number Long (one_reply number (answers.Refused code.LongLine)) old
 unfolding ComesTo Step
-fair_long old number ready = record {
+fair_long old number rest = record {
   step = (Err code.LongLine, refl, refl, refl);
-  rest = ready.rest;
+  rest = rest;
   refused = λ why one. refl;
   zero = λ q. omega arith;
   totals = λ other one name. refl;

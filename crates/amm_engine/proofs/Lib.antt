@@ -1,5 +1,4 @@
 pub mod Parts
-pub mod Writable
 pub mod KeptQuotes
 pub mod Told
 pub mod Settling

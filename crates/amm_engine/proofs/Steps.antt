@@ -12,22 +12,22 @@ use Rattle.amm_model.specs.Ledger.{Ledger}
 use Rattle.amm_model.specs.Answers.{answer_of, ledger_after}
 use Rattle.amm_model.specs.Reading.{command_of_line}
 use Rattle.amm_model.specs.Runs.{Step, FairStep, one_reply}
+use Rattle.amm_model.specs.Sound.{IsAtRest}
 use Rattle.amm_model.specs.ReplyText.{reply_text}
 use Rattle.amm_engine.proofs.Fair.{fair_long, fair_unread, fair_asked}
 use Rattle.amm_state.specs.Tx.{TxView}
 use Rattle.amm_engine.specs.Commands.{AnswersCommand, Accepted, Declined}
-use Rattle.amm_engine.specs.Ready.{IsReady}
 use Rattle.amm_engine.specs.Service.{AnswersLine}
 
 -- a blank line has no reply
-pub AnswersLine-blank : (old : Ledger) (number : ℕ) (text : List ℕ) → IsReady old → text ≡ [] → AnswersLine old number Blank text old
+pub AnswersLine-blank : (old : Ledger) (number : ℕ) (text : List ℕ) → IsAtRest old → text ≡ [] → AnswersLine old number Blank text old
 unfolding Step
-AnswersLine-blank old number text ready is =
+AnswersLine-blank old number text rest is =
     record {
       replies = [];
       step = record {
         step = (refl, refl);
-        rest = ready.rest;
+        rest = rest;
         refused = λ why one. refl;
         zero = λ q. omega arith;
         totals = λ answer one name. refl;
@@ -42,19 +42,19 @@ one_line : (old : Ledger) (number : ℕ) (line : Line) (answer : Answer) (text :
     → text ≡ reply_text (record { line = number; answer = answer }) → AnswersLine old number line text new
 one_line old number line answer text new step is = record { replies = one_reply number answer; step = step; is = is ∙ sym (append-nil _) }
 
-pub AnswersLine-long : (old : Ledger) (number : ℕ) (text : List ℕ) → IsReady old → text ≡ reply_text (record { line = number; answer = Refused LongLine })
+pub AnswersLine-long : (old : Ledger) (number : ℕ) (text : List ℕ) → IsAtRest old → text ≡ reply_text (record { line = number; answer = Refused LongLine })
     → AnswersLine old number Long text old
-AnswersLine-long old number text ready is = one_line old number Long (Refused LongLine) text old (fair_long old number ready) is
+AnswersLine-long old number text rest is = one_line old number Long (Refused LongLine) text old (fair_long old number rest) is
 
-pub AnswersLine-unread : (old : Ledger) (number : ℕ) (bytes : List ℕ) (why : Refusal) (text : List ℕ) → IsReady old → command_of_line bytes ≡ Err why
+pub AnswersLine-unread : (old : Ledger) (number : ℕ) (bytes : List ℕ) (why : Refusal) (text : List ℕ) → IsAtRest old → command_of_line bytes ≡ Err why
     → text ≡ reply_text (record { line = number; answer = Refused why }) → AnswersLine old number (Whole bytes) text old
-AnswersLine-unread old number bytes why text ready read is = one_line old number (Whole bytes) (Refused why) text old (fair_unread old number bytes why ready read) is
+AnswersLine-unread old number bytes why text rest read is = one_line old number (Whole bytes) (Refused why) text old (fair_unread old number bytes why rest read) is
 
-pub AnswersLine-asked : (old : Ledger) (number : ℕ) (bytes : List ℕ) (asked : CommandView) (text : List ℕ) (new : Ledger) → IsReady old → command_of_line bytes ≡ Ok asked
+pub AnswersLine-asked : (old : Ledger) (number : ℕ) (bytes : List ℕ) (asked : CommandView) (text : List ℕ) (new : Ledger) → IsAtRest old → command_of_line bytes ≡ Ok asked
     → AnswersCommand old number asked text new → AnswersLine old number (Whole bytes) text new
-AnswersLine-asked old number bytes asked text new ready read a =
+AnswersLine-asked old number bytes asked text new rest read a =
     subst (λ (l : Ledger). AnswersLine old number (Whole bytes) text l) (sym a.left)
-    (one_line old number (Whole bytes) (answer_of a.outcome) text (ledger_after old a.outcome) (fair_asked old number bytes asked a.outcome ready read a.comes) a.is)
+    (one_line old number (Whole bytes) (answer_of a.outcome) text (ledger_after old a.outcome) (fair_asked old number bytes asked a.outcome rest read a.comes) a.is)
 
 -- a command that was accepted, and whose ledger is kept
 pub AnswersCommand-kept : (old : Ledger) (number : ℕ) (asked : CommandView) (text : List ℕ) (tx : TxView) (new : Ledger) → Accepted old number asked text tx → new ≡ tx.present

@@ -11,9 +11,9 @@ use Rattle.amm_model.specs.Outcome.{Outcome}
 use Rattle.amm_model.specs.Meaning.{MayComeTo}
 use Rattle.amm_model.specs.Answers.{answer_of, ledger_after}
 use Rattle.amm_model.specs.ReplyText.{reply_text}
+use Rattle.amm_model.specs.Sound.{IsAtRest}
 use Rattle.amm_state.specs.Tx.{TxView, Meets, Lacks}
 use Rattle.amm_state.specs.declared.mark.Mark.TheVariants.{Clean}
-use Rattle.amm_engine.specs.Ready.{IsReady}
 
 -- What the call did is an outcome that the command may come to.
 pub record DoesOne (old new : TxView) (asked : CommandView) (result : Result Answer Fault) : Type 0 where
@@ -41,7 +41,7 @@ pub record Accepted (old : Ledger) (number : ℕ) (asked : CommandView) (text : 
   pub comes : MayComeTo old asked (Ok (record { ledger = tx.present; answer = answer }))
   pub is : text ≡ reply_text (record { line = number; answer = answer })
   pub clean : tx.mark ≡ Clean
-  pub ready : IsReady tx.present
+  pub rest : IsAtRest tx.present
 
 -- The command was refused, and the text is that of its reply.
 pub record Declined (old : Ledger) (number : ℕ) (asked : CommandView) (text : List ℕ) : Type 0 where

@@ -1,4 +1,3 @@
 pub mod Codes
-pub mod Ready
 pub mod Commands
 pub mod Service

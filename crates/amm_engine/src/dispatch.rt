@@ -76,9 +76,7 @@ fn withdraw(
 {
     let asset = Asset::Token(*token);
     let holder = Holder::User(*user);
-    if let Err(why) = known(tx.book(), &asset) {
-        return Err(tx.refuse(why));
-    }
+    tx.admit(known(tx.book(), &asset))?;
     tx.retire(alloc, &asset, &holder, n)?;
     let book = tx.book();
     Ok(Answer::Withdraw {

@@ -8,8 +8,8 @@ ghost use Rattle.amm_model.specs.declared.limits.TheConstants.{INPUT_LIMIT};
 ghost use Rattle.amm_model.specs.Ledger.{opening_ledger};
 ghost use Rattle.amm_model.specs.CommandView.{view_of};
 ghost use Rattle.amm_model.specs.Fits.{Fits};
+ghost use Rattle.amm_model.specs.Sound.{IsAtRest};
 ghost use Rattle.amm_engine.specs.Commands.{AnswersCommand};
-ghost use Rattle.amm_engine.specs.Ready.{IsReady};
 ghost use Rattle.amm_engine.specs.Service.{AnswersLine, ServesAll, ServesEnded, ServesToLimit, BreaksOff, LacksMemory};
 
 use crate::Status;
@@ -34,7 +34,7 @@ impl Model for Engine {
     ghost use Rattle.std.specs.Option.{unwrap_or};
     ghost use Rattle.amm_model.specs.Ledger.{Ledger, opening_ledger};
     ghost use Rattle.amm_model.specs.Codes.{ledger_code};
-    ghost use Rattle.amm_engine.specs.Ready.{IsReady};
+    ghost use Rattle.amm_model.specs.Sound.{IsAtRest};
 
     ghost Value = { Ledger };
 
@@ -42,7 +42,7 @@ impl Model for Engine {
 
     ghost view = { λ engine. unwrap_or engine.state opening_ledger };
 
-    ghost invariant = { λ engine. IsSome engine.state × IsReady (unwrap_or engine.state opening_ledger) };
+    ghost invariant = { λ engine. IsSome engine.state × IsAtRest (unwrap_or engine.state opening_ledger) };
 }
 
 impl Engine {
@@ -62,10 +62,10 @@ impl Engine {
         })
     }
 
-    /// The ledger, which is at rest, and whose kept quotes are of problems.
+    /// The ledger, which is at rest.
     pub fn book(&self) -> &Book
         ensures ledger { result.now.ledger ≡ self.now }
-        ensures ready { IsReady self.now }
+        ensures rest { IsAtRest self.now }
     {
         self.state.as_ref().unwrap().book()
     }
@@ -93,7 +93,7 @@ impl Engine {
         ensures ok { OnOk result (AnswersLine self.old number line.now text.new.items self.new) }
         ensures err { OnErr result (self.new ≡ self.old) }
     {
-        let _ready = self.book();
+        let _rest = self.book();
         match line {
             Line::Blank => {
                 text.clear();
@@ -112,7 +112,7 @@ impl Engine {
         bytes: &[u8],
         text: &mut Vec<u8>,
     ) -> Result<(), Memory>
-        requires ready { IsReady self.old }
+        requires rest { IsAtRest self.old }
         ensures ok { OnOk result (AnswersLine self.old number (Whole bytes.now) text.new.items self.new) }
         ensures err { OnErr result (self.new ≡ self.old) }
     {

@@ -38,9 +38,7 @@ pub(crate) fn balance(tx: &mut Tx, asset: &Asset, holder: &Holder) -> Result<Ans
     requires clean { tx.old.mark ≡ Mark.Clean }
     ensures meets { Meets tx.old tx.new result (query tx.old.present (λ _. answers.Balance (balance tx.old.present asset.now holder.now)) (known_asset tx.old.present asset.now)) }
 {
-    if let Err(why) = known(tx.book(), asset) {
-        return Err(tx.refuse(why));
-    }
+    tx.admit(known(tx.book(), asset))?;
     Ok(Answer::Balance {
         n: tx.book().balance(asset, holder),
     })
@@ -50,9 +48,7 @@ pub(crate) fn total(tx: &mut Tx, asset: &Asset) -> Result<Answer, Fault>
     requires clean { tx.old.mark ≡ Mark.Clean }
     ensures meets { Meets tx.old tx.new result (query tx.old.present (λ _. answers.Total (total tx.old.present asset.now)) (known_asset tx.old.present asset.now)) }
 {
-    if let Err(why) = known(tx.book(), asset) {
-        return Err(tx.refuse(why));
-    }
+    tx.admit(known(tx.book(), asset))?;
     Ok(Answer::Total {
         n: tx.book().total(asset),
     })
@@ -73,8 +69,7 @@ pub(crate) fn quote_out(
 {
     match amounts_out(alloc, tx.book(), path, n) {
         Ok(amounts) => Ok(Answer::QuoteOut { amounts }),
-        Err(Fault::Refused(why)) => Err(tx.refuse(why)),
-        Err(Fault::Memory) => Err(tx.lack()),
+        Err(fault) => Err(tx.fail(fault)),
     }
 }
 
@@ -93,8 +88,7 @@ pub(crate) fn quote_in(
 {
     match amounts_in(alloc, tx.book(), path, n) {
         Ok(amounts) => Ok(Answer::QuoteIn { amounts }),
-        Err(Fault::Refused(why)) => Err(tx.refuse(why)),
-        Err(Fault::Memory) => Err(tx.lack()),
+        Err(fault) => Err(tx.fail(fault)),
     }
 }
 

@@ -4,8 +4,8 @@ ghost use Rattle.amm_state.specs.declared.mark.Mark.{Mark};
 ghost use Rattle.amm_model.specs.CommandView.{view_of};
 ghost use Rattle.amm_model.specs.Fits.{Fits};
 ghost use Rattle.amm_model.specs.ReplyText.{reply_text, CanBeWritten};
+ghost use Rattle.amm_model.specs.Sound.{IsAtRest};
 ghost use Rattle.amm_engine.specs.Commands.{AnswersCommand, Accepted, Declined};
-ghost use Rattle.amm_engine.specs.Ready.{IsReady};
 
 use crate::dispatch::perform;
 use amm_model::{Answer, Command, Fault, Memory};
@@ -38,9 +38,9 @@ pub(crate) fn run(
     command: &Command,
     text: &mut Vec<u8>,
 ) -> (State, Result<(), Memory>)
-    requires ready { IsReady state }
+    requires rest { IsAtRest state }
     requires fits { Fits (view_of command.now) }
-    ensures ready { IsReady result.0 }
+    ensures rest { IsAtRest result.0 }
     ensures ok { OnOk result.1 (AnswersCommand state number (view_of command.now) text.new.items result.0) }
     ensures err { OnErr result.1 (result.0 ≡ state) }
 {
@@ -61,7 +61,7 @@ fn try_command(
     text: &mut Vec<u8>,
 ) -> Result<Trial, Memory>
     requires clean { tx.old.mark ≡ Mark.Clean }
-    requires ready { IsReady tx.old.present }
+    requires rest { IsAtRest tx.old.present }
     requires fits { Fits (view_of command.now) }
     ensures opening { tx.new.opening ≡ tx.old.opening }
     ensures accepted { result ≡ Ok Trial.Accepted → Accepted tx.old.present number (view_of command.now) text.new.items tx.new }
