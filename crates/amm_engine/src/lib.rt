@@ -6,6 +6,7 @@
 
 mod dispatch;
 mod engine;
+mod laws;
 mod queries;
 mod split;
 mod status;
@@ -13,4 +14,5 @@ mod transaction;
 
 pub use amm_state::Seed;
 pub use engine::Engine;
+pub use laws::replies_fix_the_ledger;
 pub use status::Status;
