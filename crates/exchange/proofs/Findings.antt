@@ -1,9 +1,17 @@
 -- What a finding says.
 use Rattle.std.proofs.Common.{◌≡◌, ◌≢◌, ◌≤◌, ◌⊎◌, inl, inr, ℕ, List, length, sym, subst, refl, ap, arith, Some}
+use Rattle.std.specs.Prelude.{Contains}
 use Rattle.std.specs.declared.option.Option.{Option}
+use Rattle.std.proofs.lemmas.List.Elements.{All-contains}
 use Rattle.amm_io.specs.Causes.{HasCause, Rose}
 use Rattle.amm_io.specs.Traffic.{TakesWithin}
-use Rattle.amm_check.proofs.Judging.{unbeaten}
+use Rattle.amm_model.specs.declared.route.Quote.{Quote}
+use Rattle.amm_model.specs.Certificate.{certificate_text}
+use Rattle.amm_model.specs.Ledger.{Ledger}
+use Rattle.amm_model.specs.Sound.{IsSound}
+use Rattle.amm_model.specs.SplitAnswers.{IsSplitAnswer}
+use Rattle.amm_cert.proofs.Certified.{answer_certifies}
+use Rattle.amm_check.proofs.Judging.{answer_right, unbeaten}
 use Rattle.amm_engine.specs.declared.status.Status.{Status}
 use Rattle.amm_engine.specs.declared.status.Status.TheVariants as statuses
 use Rattle.exchange.specs.declared.finding.Finding.{Finding}
@@ -32,6 +40,12 @@ assured limit left_before left_after before after status t is = go t.finding ref
           unbeaten = unbeaten quote sound.problem sound.prices sound.writable.priced found.2;
         }
     go (No flaw) same = absurd (let told = rw (same, is) at t.told in cc (told))
+
+-- the certificate of a kept quote is found right
+pub kept_right : (ledger : Ledger) (quote : Quote) → IsSound ledger → Contains ledger.quotes quote → IsFindingOf (certificate_text quote) (Yes quote.delivered quote.bound)
+kept_right ledger quote sound has =
+    let split = All-contains IsSplitAnswer ledger.quotes quote sound.answers has in
+    (quote, answer_certifies quote split, answer_right quote split, refl, refl)
 
 -- with no fault, an input within its limit is judged, unless memory runs out
 pub judges : (limit : ℕ) (input : List ℕ) (left_before left_after : Option (List ℕ)) (reads reads_after writes writes_after : ℕ) (status : Status)

@@ -6,6 +6,7 @@
 
 mod checker;
 mod finding;
+mod laws;
 #[cfg(test)]
 mod tests;
 mod top;
@@ -14,6 +15,7 @@ mod words;
 
 use amm_engine::{Seed, Status};
 use amm_io::{StdSink, StdSource};
+pub use laws::kept_quotes_are_found_right;
 use std::process::ExitCode;
 use std::random::RandomSource;
 use std::{env, io};
