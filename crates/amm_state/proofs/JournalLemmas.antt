@@ -13,7 +13,7 @@ use Rattle.amm_names.proofs.OrderLemmas.{asset_total, holder_total}
 use Rattle.amm_model.proofs.Names.{same_asset_is}
 use Rattle.amm_model.proofs.LedgerLemmas.{total-set_balance, balance_within_total, balance-set_here, set_balance-back}
 use Rattle.amm_state.specs.declared.journal.Undo.{Undo}
-use Rattle.amm_state.specs.declared.journal.Undo.TheVariants.{Balance, Token, NewPair, Pair, NewQuote, FeeTo, Setter, Time}
+use Rattle.amm_state.specs.declared.journal.Undo.TheVariants.{Balance, Token, NewPair, Pair, NewQuote, NewObservation, FeeTo, Setter, Time}
 use Rattle.amm_state.specs.Rows.{Holders}
 use Rattle.amm_state.specs.Assets.{Rows, holders_at, has_row}
 use Rattle.amm_state.specs.Book.{BookView, with_balance, with_ledger, with_pairs}
@@ -52,6 +52,7 @@ HasRows-kept (Token ∷ changes) rows a h all = HasRows-kept changes rows a h al
 HasRows-kept (NewPair ∷ changes) rows a h all = HasRows-kept changes rows a h all
 HasRows-kept (Pair pool pair ∷ changes) rows a h all = HasRows-kept changes rows a h all
 HasRows-kept (NewQuote ∷ changes) rows a h all = HasRows-kept changes rows a h all
+HasRows-kept (NewObservation ∷ changes) rows a h all = HasRows-kept changes rows a h all
 HasRows-kept (FeeTo holder ∷ changes) rows a h all = HasRows-kept changes rows a h all
 HasRows-kept (Setter user ∷ changes) rows a h all = HasRows-kept changes rows a h all
 HasRows-kept (Time time ∷ changes) rows a h all = HasRows-kept changes rows a h all

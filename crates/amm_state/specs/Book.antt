@@ -41,6 +41,10 @@ without_token ledger = record ledger { tokens = take (length ledger.tokens - 1) 
 abbrev pub without_quote : Ledger → Ledger
 without_quote ledger = record ledger { quotes = take (length ledger.quotes - 1) ledger.quotes }
 
+-- the ledger without the observation that was kept last
+abbrev pub without_observation : Ledger → Ledger
+without_observation ledger = record ledger { observations = take (length ledger.observations - 1) ledger.observations }
+
 -- the ledger with these pairs
 abbrev pub with_pairs : Ledger → Pairs → Ledger
 with_pairs ledger pairs = record ledger { pairs = pairs }

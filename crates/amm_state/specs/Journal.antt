@@ -4,10 +4,10 @@ use Rattle.amm_model.specs.Ledger.{Ledger, holdings_of, balance, total, set_bala
 use Rattle.amm_model.specs.declared.limits.TheConstants.{AMOUNT_LIMIT}
 use Rattle.amm_model.specs.Tidy.{IsTidy, IsTidyByAsset}
 use Rattle.amm_state.specs.declared.journal.Undo.{Undo}
-use Rattle.amm_state.specs.declared.journal.Undo.TheVariants.{Balance, Token, NewPair, Pair, NewQuote, FeeTo, Setter, Time}
+use Rattle.amm_state.specs.declared.journal.Undo.TheVariants.{Balance, Token, NewPair, Pair, NewQuote, NewObservation, FeeTo, Setter, Time}
 use Rattle.amm_names.specs.declared.holder.Asset.{Asset}
 use Rattle.amm_state.specs.Assets.{Rows, has_row}
-use Rattle.amm_state.specs.Book.{BookView, without_token, without_quote, with_pairs, with_time}
+use Rattle.amm_state.specs.Book.{BookView, without_token, without_quote, without_observation, with_pairs, with_time}
 use Rattle.amm_model.specs.Sound.{IsAtRest}
 use Rattle.std.specs.Coded.{Coded, code_by, coded×, coded_ℕ, coded_list}
 use Rattle.amm_state.specs.contracts.journal.Undo as undos
@@ -30,6 +30,7 @@ undo Token ledger = without_token ledger
 undo NewPair ledger = with_pairs ledger (take (length ledger.pairs - 1) ledger.pairs)
 undo (Pair pool pair) ledger = with_pairs ledger (set_pair ledger.pairs pool pair)
 undo NewQuote ledger = without_quote ledger
+undo NewObservation ledger = without_observation ledger
 undo (FeeTo holder) ledger = with_fee_to ledger holder
 undo (Setter user) ledger = with_setter ledger user
 undo (Time time) ledger = with_time ledger time

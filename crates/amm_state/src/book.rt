@@ -2,49 +2,52 @@
 ghost use Rattle.std.specs.Prelude.{◌≡◌, ◌+◌, ◌-◌, ◌<◌, ◌≤◌, ◌++◌, ◌∷◌, [], false, take, OnOk, OnErr, IfOk, IfErr, IfSome, IfNone, Some, IsTrue, length, None, slice_get};
 ghost use Rattle.std.specs.FinMap as map;
 ghost use Rattle.amm_model.specs.declared.fault.Refusal.TheVariants as refusal;
-ghost use Rattle.amm_model.specs.Ledger.{balance, set_balance, total, is_listed, opening_ledger, pair_of, quote_of, set_pair, zero_pair, with_fee_to, with_quote, with_setter};
+ghost use Rattle.amm_model.specs.Ledger.{balance, set_balance, total, is_listed, opening_ledger, pair_of, quote_of, observation_at, set_pair, zero_pair, with_fee_to, with_quote, with_observation, with_setter};
 ghost use Rattle.amm_model.specs.declared.limits.TheConstants.{AMOUNT_LIMIT};
 ghost use Rattle.amm_state.specs.Assets.{has_row};
-ghost use Rattle.amm_state.specs.Book.{with_balance, with_ledger, with_token, without_token, without_quote, with_pairs, with_time};
+ghost use Rattle.amm_state.specs.Book.{with_balance, with_ledger, with_token, without_token, without_quote, without_observation, with_pairs, with_time};
 ghost use Rattle.amm_state.specs.Rows.{Because};
 ghost use Rattle.std.specs.List.{list_any};
 ghost use Rattle.std.specs.Map.{values_of};
 ghost use Rattle.std.specs.Map.Iter.{deref_pair};
 ghost use Rattle.std.specs.Option.{option_copied, option_map};
+ghost use Rattle.amm_model.specs.Observations.{AreInTime, is_before};
+ghost use Rattle.amm_model.specs.Oracle.{last_from};
 
 use crate::Seed;
 use crate::assets::Assets;
+use crate::observations::Observations;
 use crate::rows::Before;
-use amm_model::{Fault, PairRecord, Quote};
+use amm_model::{Fault, Observation, PairRecord, Quote};
 use amm_names::{Asset, Holder, Memory, PoolName, TokenName, UserName};
 use indexmap::{IndexMap, IndexSet};
 use std::alloc::Global;
 use std::marker::Model;
 use std::mem::replace;
 
-/// The tables of the ledger: who holds what, the listed tokens, the pairs, the kept quotes, the
-/// protocol's settings and the time. Contracts see the ledger, and beside it which accounts have a
-/// row, which may say 0.
+/// The tables of the ledger: who holds what, the listed tokens, the pairs, the kept quotes and
+/// observations, the protocol's settings and the time. Contracts see the ledger, and beside it
+/// which accounts have a row, which may say 0.
 #[derive(Drop)]
 pub struct Book {
     assets: Assets,
     tokens: IndexSet<TokenName, Seed>,
     pairs: IndexMap<PoolName, PairRecord, Seed>,
     quotes: Vec<Quote>,
+    observations: Observations,
     fee_to: Holder,
     setter: UserName,
     time: u64,
 }
 
 impl Model for Book {
-    ghost use Rattle.std.specs.Prelude.{[]};
     ghost use Rattle.amm_state.specs.Book.{BookView, book_code};
 
     ghost Value = { BookView };
 
     ghost coded = { book_code };
 
-    ghost view = { λ book. record { ledger = record { holdings = book.assets.holdings; tokens = book.tokens.keys; pairs = book.pairs.entries; fee_to = book.fee_to; setter = book.setter; time = book.time; quotes = book.quotes.items; observations = [] }; rows = book.assets.rows } };
+    ghost view = { λ book. record { ledger = record { holdings = book.assets.holdings; tokens = book.tokens.keys; pairs = book.pairs.entries; fee_to = book.fee_to; setter = book.setter; time = book.time; quotes = book.quotes.items; observations = book.observations }; rows = book.assets.rows } };
 }
 
 // Writes the record of a pool, if it has a pair, and gives the one that stood there.
@@ -72,6 +75,7 @@ impl Book {
             tokens: IndexSet::with_hasher(alloc, seed),
             pairs: IndexMap::with_hasher(alloc, seed),
             quotes: Vec::new(alloc),
+            observations: Observations::new(alloc, seed),
             fee_to: Holder::Zero,
             setter,
             time: 0,
@@ -151,6 +155,30 @@ impl Book {
         ensures { result ≡ length self.now.ledger.quotes }
     {
         self.quotes.len()
+    }
+
+    /// The observation with this number, counted from 1, if it is kept.
+    pub fn observation(&self, number: u64) -> Option<&Observation>
+        ensures some { IfSome result (λ observation. observation_at self.now.ledger.observations number ≡ Some observation.now) }
+        ensures none { IfNone result (observation_at self.now.ledger.observations number ≡ None) }
+    {
+        self.observations.get(number)
+    }
+
+    /// How many observations are kept.
+    pub fn observation_count(&self) -> u64
+        ensures { result ≡ length self.now.ledger.observations }
+    {
+        self.observations.len() as u64
+    }
+
+    /// The number of the pool's last observation at this time or before. It takes no memory, and a
+    /// number of steps that grows with the logarithm of how many observations the pool has.
+    pub fn last_observation(&self, pool: &PoolName, latest: u64) -> Option<u64>
+        requires { AreInTime self.now.ledger.time self.now.ledger.observations }
+        ensures { result ≡ option_map (λ found. found.0) (last_from 1 (is_before pool.now 0 latest) self.now.ledger.observations) }
+    {
+        self.observations.last_by(pool, latest)
     }
 
     /// Who receives the protocol's fee.
@@ -305,6 +333,25 @@ impl Book {
         ensures { self.new ≡ with_ledger self.old (without_quote self.old.ledger) }
     {
         let _ = self.quotes.pop();
+    }
+
+    /// Keeps an observation, the last.
+    pub(crate) fn add_observation(
+        &mut self,
+        alloc: Global,
+        observation: Observation,
+    ) -> Result<(), Memory>
+        ensures ok { OnOk result (self.new ≡ with_ledger self.old (with_observation self.old.ledger observation)) }
+        ensures err { OnErr result (self.new ≡ self.old) }
+    {
+        self.observations.push(alloc, observation)
+    }
+
+    /// Gives up the observation that was kept last.
+    pub(crate) fn remove_last_observation(&mut self)
+        ensures { self.new ≡ with_ledger self.old (without_observation self.old.ledger) }
+    {
+        self.observations.pop();
     }
 
     pub(crate) fn set_fee_to(&mut self, to: Holder)

@@ -14,6 +14,7 @@ pub enum Undo {
     NewPair,
     Pair(PoolName, PairRecord),
     NewQuote,
+    NewObservation,
     FeeTo(Holder),
     Setter(UserName),
     Time(u64),

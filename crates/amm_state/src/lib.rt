@@ -10,6 +10,7 @@ mod assets;
 mod book;
 mod journal;
 mod mark;
+mod observations;
 mod rows;
 mod seed;
 mod state;

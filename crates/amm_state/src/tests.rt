@@ -70,6 +70,7 @@ fn is_opening(book: &Book, asset: &Asset) -> bool {
         && book.token_count() == 0
         && book.pair_count() == 0
         && book.quote_count() == 0
+        && book.observation_count() == 0
         && *book.fee_to() == Holder::Zero
         && book.setter().as_bytes() == b"admin".as_slice()
         && book.time() == 0
@@ -286,6 +287,67 @@ fn takes_quotes_back(rt: HostRuntime) -> Result<(), Fail> {
     let state = tx.rollback();
     assert_eq!(&rt; number, Ok(2));
     assert_eq!(&rt; past, Err(Fault::Refused(Refusal::QuoteLimit)));
+    assert!(&rt; shown && none && full && is_opening(state.book(), &asset));
+    Ok(())
+}
+
+// Observes the pool n times, and then once more.
+fn observes(alloc: Global, tx: &mut Tx, pool: &PoolName, n: u32) -> Result<u64, Fault>
+    requires { tx.old.mark ≡ Mark.Clean }
+{
+    'observations: for _ in 0..n {
+        observes_one(alloc, tx, pool)?;
+    }
+    observes_one(alloc, tx, pool)
+}
+
+fn observes_one(alloc: Global, tx: &mut Tx, pool: &PoolName) -> Result<u64, Fault>
+    requires { tx.old.mark ≡ Mark.Clean }
+    ensures { OnOk result (tx.new.mark ≡ Mark.Clean) }
+{
+    match tx.book().pair(pool) {
+        Some(_) => tx.add_observation(alloc, pool),
+        None => Err(tx.refuse(Refusal::NoPair)),
+    }
+}
+
+// Adds the pair, and observes it n times and once more.
+fn observes_new(alloc: Global, tx: &mut Tx, pool: &PoolName, n: u32) -> Result<u64, Fault>
+    requires { tx.old.mark ≡ Mark.Clean }
+{
+    adds_pair(alloc, tx, pool)?;
+    observes(alloc, tx, pool, n)
+}
+
+// Whether the observations numbered 1 to `last`, and no others, are kept.
+fn shows_observations(book: &Book, last: u32) -> bool {
+    let last = last as u64;
+    book.observation_count() == last
+        && book.observation(0).is_none()
+        && book.observation(1).is_some()
+        && book.observation(last).is_some()
+        && book.observation(last + 1).is_none()
+        && book.observation(u64::MAX).is_none()
+}
+
+#[test]
+fn takes_observations_back(rt: HostRuntime) -> Result<(), Fail> {
+    let alloc = rt.alloc();
+    let asset = Asset::Token(token(alloc)?);
+    let pool = match PoolName::read(alloc, b"A/B".as_slice()) {
+        Ok(Some(name)) => name,
+        _ => return Err("no pool")?,
+    };
+    let mut tx = Tx::begin(new_state(alloc)?);
+    let number = observes_new(alloc, &mut tx, &pool, 1);
+    let shown = shows_observations(tx.book(), 2);
+    let mut tx = Tx::begin(tx.rollback());
+    let none = is_opening(tx.book(), &asset);
+    let past = observes_new(alloc, &mut tx, &pool, 4096);
+    let full = shows_observations(tx.book(), 4096);
+    let state = tx.rollback();
+    assert_eq!(&rt; number, Ok(2));
+    assert_eq!(&rt; past, Err(Fault::Refused(Refusal::ObservationLimit)));
     assert!(&rt; shown && none && full && is_opening(state.book(), &asset));
     Ok(())
 }

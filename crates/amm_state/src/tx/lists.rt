@@ -1,6 +1,8 @@
-//! The listed tokens, the pairs and the kept quotes.
+//! The listed tokens, the pairs, and the kept quotes and observations.
 ghost use Rattle.std.specs.Prelude.{◌≡◌, ◌++◌, ◌∷◌, [], OnOk, OnErr, false, None, IsSome};
-ghost use Rattle.amm_model.specs.Ledger.{with_pair, with_quote, is_listed, pair_of, zero_pair};
+ghost use Rattle.amm_model.specs.Ledger.{with_pair, with_quote, with_observation, is_listed, pair_of, zero_pair};
+ghost use Rattle.std.specs.Option.{unwrap_or};
+ghost use Rattle.amm_model.specs.Oracle.{add_observation};
 ghost use Rattle.amm_model.specs.Outcome.{ledger_only};
 ghost use Rattle.amm_model.specs.Postings.{list_token, add_pair, add_quote};
 ghost use Rattle.amm_state.specs.declared.mark.Mark.{Mark};
@@ -9,8 +11,8 @@ ghost use Rattle.amm_state.specs.Tx.{Meets};
 
 use super::Tx;
 use crate::journal::Undo;
-use amm_model::limits::{PAIR_LIMIT, QUOTE_LIMIT, TOKEN_LIMIT};
-use amm_model::{Fault, PairRecord, Quote, Refusal};
+use amm_model::limits::{OBSERVATION_LIMIT, PAIR_LIMIT, QUOTE_LIMIT, TOKEN_LIMIT};
+use amm_model::{Fault, Observation, PairRecord, Quote, Refusal};
 use amm_names::{Memory, PoolName, TokenName};
 use std::alloc::Global;
 
@@ -119,6 +121,42 @@ impl Tx {
         self.journal.reserve(1)?;
         self.book.add_quote(quote)?;
         self.journal.note(Undo::NewQuote);
+        Ok(())
+    }
+
+    /// Keeps an observation of a pool by its record as it stands, and gives its number.
+    /// `ObservationLimit` exactly where 4096 are kept.
+    #[tactic(auto, unfolding(amm_model::specs::Oracle::add_observation))]
+    pub fn add_observation(&mut self, alloc: Global, pool: &PoolName) -> Result<u64, Fault>
+        requires clean { self.old.mark ≡ Mark.Clean }
+        requires there { IsSome (pair_of self.old.present.pairs pool.now) }
+        ensures { Meets self.old self.new result (add_observation self.old.present pool.now (unwrap_or (pair_of self.old.present.pairs pool.now) zero_pair)) }
+    {
+        let count = self.book.observation_count();
+        if count >= OBSERVATION_LIMIT as u64 {
+            return Err(self.refuse(Refusal::ObservationLimit));
+        }
+        let pair = *self.book.pair(pool).unwrap();
+        let observation = Observation {
+            pool: *pool,
+            time: self.book.time(),
+            acc0: pair.acc0,
+            acc1: pair.acc1,
+        };
+        match self.put_observation(alloc, observation) {
+            Ok(()) => Ok(count + 1),
+            Err(_) => Err(self.lack()),
+        }
+    }
+
+    // Keeps an observation, and notes that it was not there.
+    fn put_observation(&mut self, alloc: Global, observation: Observation) -> Result<(), Memory>
+        ensures ok { OnOk result (self.new ≡ record self.old { present = with_observation self.old.present observation }) }
+        ensures err { OnErr result (self.new ≡ self.old) }
+    {
+        self.journal.reserve(1)?;
+        self.book.add_observation(alloc, observation)?;
+        self.journal.note(Undo::NewObservation);
         Ok(())
     }
 }

@@ -21,6 +21,7 @@ fn undo_one(book: &mut Book, change: Undo)
             book.replace_pair(&pool, pair);
         }
         Undo::NewQuote => book.remove_last_quote(),
+        Undo::NewObservation => book.remove_last_observation(),
         Undo::FeeTo(holder) => book.set_fee_to(holder),
         Undo::Setter(user) => book.set_setter(user),
         Undo::Time(time) => book.set_time(time),

@@ -12,7 +12,7 @@ returns-clause-ok c = elim c.match-insert.branch [
       let pairs : c.insert.new.self.entries ≡ c.self.inside.pairs.entries ++ (c.args.pool.now, zero_pair) ∷ [] =
       w.in-Ok.ensures.entries ∙ insert_entry-new _ c.self.inside.pairs c.args.pool.now zero_pair none in
       rw w.result-is
-      (ap (λ (k : Pairs). record { ledger = record { holdings = c.self.inside.assets.holdings; tokens = c.self.inside.tokens.keys; pairs = k; fee_to = c.self.inside.fee_to; setter = c.self.inside.setter; time = c.self.inside.time; quotes = c.self.inside.quotes.items; observations = [] }; rows = c.self.inside.assets.rows }) pairs
+      (ap (λ (k : Pairs). record { ledger = record { holdings = c.self.inside.assets.holdings; tokens = c.self.inside.tokens.keys; pairs = k; fee_to = c.self.inside.fee_to; setter = c.self.inside.setter; time = c.self.inside.time; quotes = c.self.inside.quotes.items; observations = c.self.inside.observations }; rows = c.self.inside.assets.rows }) pairs
       ∙ ap (λ (b : BookView). with_ledger b (with_pairs b.ledger (b.ledger.pairs ++ (c.args.pool.now, zero_pair) ∷ []))) c.self.view_is)
   | in-Err w ↦ rw w.result-is tt
 ]

@@ -11,7 +11,7 @@ returns-clause-ok c = elim c.match-insert.branch [
       let new = insert_key-new c.self.inside.tokens.keys c.args.token.now (ap (λ (b : BookView). is_listed b.ledger.tokens c.args.token.now) c.self.view_is ∙ c.requires) in
       let keys : c.insert.new.self.keys ≡ c.self.inside.tokens.keys ++ c.args.token.now ∷ [] = w.in-Ok.ensures.keys ∙ new in
       rw w.result-is
-      (ap (λ (k : List (List ℕ)). record { ledger = record { holdings = c.self.inside.assets.holdings; tokens = k; pairs = c.self.inside.pairs.entries; fee_to = c.self.inside.fee_to; setter = c.self.inside.setter; time = c.self.inside.time; quotes = c.self.inside.quotes.items; observations = [] }; rows = c.self.inside.assets.rows }) keys
+      (ap (λ (k : List (List ℕ)). record { ledger = record { holdings = c.self.inside.assets.holdings; tokens = k; pairs = c.self.inside.pairs.entries; fee_to = c.self.inside.fee_to; setter = c.self.inside.setter; time = c.self.inside.time; quotes = c.self.inside.quotes.items; observations = c.self.inside.observations }; rows = c.self.inside.assets.rows }) keys
       ∙ ap (λ (b : BookView). with_ledger b (with_token b.ledger c.args.token.now)) c.self.view_is)
   | in-Err w ↦ rw w.result-is tt
 ]

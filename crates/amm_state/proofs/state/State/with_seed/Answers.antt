@@ -17,7 +17,7 @@ opening_sound setter = record {
   time = omega arith;
   quotes = omega arith;
   answers = λ i d short. absurd (omega arith);
-  observations = omega arith;
+  observations = record { few = omega arith; in_order = λ i j d before short. absurd (omega arith); past = λ i d short. absurd (omega arith) };
 }
 
 opening_rest : (setter : List ℕ) → IsAtRest (with_setter opening_ledger setter)
