@@ -1,13 +1,16 @@
 // What is found of the bytes of a certificate.
-ghost use Rattle.std.specs.Prelude.{◌≡◌, ℕ, List, IfOk, length};
+ghost use Rattle.std.specs.Prelude.{◌≡◌, ℕ, List, IfOk, OnOk, length};
+ghost use Rattle.serde_json.specs.Events.{SendsValue};
+ghost use Rattle.serde_json.specs.Written.{compact_text};
 ghost use Rattle.amm_model.specs.Certificate.{IsCertificateOf};
-ghost use Rattle.exchange.specs.Findings.{IsFindingOf, finding_line, finding_status, flaw_code};
+ghost use Rattle.exchange.specs.Findings.{IsFindingOf, finding_line, finding_status, finding_value, flaw_code};
 
 use amm_cert::read;
 use amm_check::{Verdict, check};
 use amm_engine::Status;
 use amm_model::{Memory, Quote};
-use amm_text::{push_number, push_plain, push_wide};
+use amm_text::send_wide;
+use serde::{Described, Serialize, Serializer};
 use std::alloc::Global;
 
 /// What is found of some bytes.
@@ -68,12 +71,23 @@ impl Finding {
     }
 
     /// Its line.
+    #[tactic(auto, unfolding(crate::specs::Findings::finding_line))]
     pub fn line(self, alloc: Global) -> Result<Vec<u8>, Memory>
         ensures { IfOk result (λ line. line.items ≡ finding_line self) }
     {
-        match self {
-            Finding::Yes { delivered, bound } => yes_line(alloc, delivered, bound),
-            Finding::No(flaw) => no_line(alloc, flaw),
+        let mut line = self.text(alloc)?;
+        line.push(b'\n')?;
+        Ok(line)
+    }
+
+    /// Its row, as `serde_json` writes it.
+    fn text(self, alloc: Global) -> Result<Vec<u8>, Memory>
+        ensures { IfOk result (λ text. text.items ≡ compact_text (finding_value self)) }
+    {
+        match serde_json::to_vec(alloc, &self) {
+            Ok(text) => Ok(text),
+            // A row sends no keys and flattens nothing, so nothing else fails.
+            Err(_) => Err(Memory),
         }
     }
 }
@@ -96,23 +110,37 @@ fn of_quote(quote: &Quote) -> Finding
     }
 }
 
-fn yes_line(alloc: Global, delivered: u64, bound: u128) -> Result<Vec<u8>, Memory>
-    ensures { IfOk result (λ line. line.items ≡ finding_line (Finding.Yes delivered bound)) }
-{
-    let mut line = Vec::new(alloc);
-    line.extend_from_slice(b"[\"yes\"")?;
-    push_number(&mut line, delivered)?;
-    push_wide(&mut line, bound)?;
-    line.extend_from_slice(b"]\n")?;
-    Ok(line)
+/// What is written of it.
+impl Described for Finding {
+    ghost writes = { λ finding. SendsValue (finding_value finding) };
 }
 
-fn no_line(alloc: Global, flaw: Flaw) -> Result<Vec<u8>, Memory>
-    ensures { IfOk result (λ line. line.items ≡ finding_line (Finding.No flaw)) }
+impl Serialize for Finding {
+    fn serialize<S: Serializer>(&self, out: &mut S) -> Result<(), S::Error> {
+        match self {
+            Finding::Yes { delivered, bound } => send_yes(*delivered, *bound, out),
+            Finding::No(flaw) => send_no(*flaw, out),
+        }
+    }
+}
+
+fn send_yes<S: Serializer>(delivered: u64, bound: u128, out: &mut S) -> Result<(), S::Error>
+    ensures { OnOk result (SendsValue (finding_value (Finding.Yes delivered bound))
+        (S.written out.old) (S.written out.new)) }
 {
-    let mut line = Vec::new(alloc);
-    line.extend_from_slice(b"[\"no\"")?;
-    push_plain(&mut line, flaw.code().as_bytes())?;
-    line.extend_from_slice(b"]\n")?;
-    Ok(line)
+    out.begin_seq(Some(3))?;
+    out.str("yes")?;
+    out.u64(delivered)?;
+    send_wide(bound, out)?;
+    out.end_seq()
+}
+
+fn send_no<S: Serializer>(flaw: Flaw, out: &mut S) -> Result<(), S::Error>
+    ensures { OnOk result (SendsValue (finding_value (Finding.No flaw))
+        (S.written out.old) (S.written out.new)) }
+{
+    out.begin_seq(Some(2))?;
+    out.str("no")?;
+    out.str(flaw.code())?;
+    out.end_seq()
 }
