@@ -1,5 +1,5 @@
 -- Prices are settled where a route delivers all but one part in 65536 of their bound.
-use Rattle.std.proofs.Common.{◌≡◌, ℕ, ◌+◌, ◌/◌, ◌≤◌, ◌^◌, List, [], ◌∷◌, length, map, arith, refl, ◌∙◌, subst, Some}
+use Rattle.std.proofs.Common.{◌≡◌, ℕ, Bool, true, false, ap, ◌+◌, ◌/◌, ◌≤◌, ◌^◌, List, [], ◌∷◌, length, map, arith, refl, ◌∙◌, subst, Some}
 use Rattle.std.specs.Prelude.{Option, MatchOption}
 use Rattle.std.proofs.Math.ListN.{length-set}
 use Rattle.amm_model.specs.declared.prices.Turn.{Turn}
@@ -9,12 +9,19 @@ use Rattle.amm_model.specs.Bound.{bound_of, price_of}
 use Rattle.amm_model.specs.Legs.{AreLegs, Delivers, trade_of}
 use Rattle.amm_model.specs.Settled.{IsSettled, prices_after, prices_after_turn}
 use Rattle.amm_model.proofs.LegLaw.{legs_are_route, legs_deliver}
+use Rattle.amm_dual.specs.declared.moves.Move.{Move}
+use Rattle.amm_dual.specs.Moves.{turns_of}
 use Rattle.amm_bound.proofs.Law.{no_route_beats_bound}
 
 -- a move leaves as many prices
 length-moved : (k : ℕ) (prices : List ℕ) (turns : List Turn) → length (prices_after k prices turns) ≡ length prices
 length-moved k prices [] = refl
 length-moved k prices (turn ∷ turns) = length-moved k (prices_after_turn k prices turn) turns ∙ length-set prices turn.place _
+
+-- and so where it was taken or not
+pub many-either : (b : Bool) (prices after : List ℕ) (step : Move) → (b ≡ true → after ≡ prices_after step.k prices (turns_of step)) → (b ≡ false → after ≡ prices) → length after ≡ length prices
+many-either true prices after step taken kept = ap length (taken refl) ∙ length-moved step.k prices (turns_of step)
+many-either false prices after step taken kept = ap length (kept refl)
 
 -- no prices have a bound below what the route delivers, and so no move helps
 settled-by : (problem : OpenView) (prices : List ℕ) (legs : List Leg) (amount : ℕ) → IsOpenProblem problem → length prices ≡ length problem.tokens → ArePrices prices →

@@ -3,3 +3,4 @@ pub mod Numbers
 pub mod Steps
 pub mod Duality
 pub mod Skips
+pub mod Shared

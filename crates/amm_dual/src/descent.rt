@@ -5,11 +5,14 @@ ghost use Rattle.amm_model.specs.Bound.{bound_of, price_of};
 ghost use Rattle.amm_model.specs.Settled.{IsSettled, prices_after, price_after as stepped_of, prices_after_turn};
 ghost use Rattle.amm_dual.specs.Moves.{IsNoHelp, NoHelpBelow, NoHelpAt, Helps, turns_of, move_of};
 ghost use Rattle.amm_dual.specs.Running.{after};
+ghost use Rattle.amm_dual.specs.Singles.{AreSingles};
 
 use crate::changes::{Change, Changes};
 use crate::lower::lower_prices;
 use crate::moves::{Move, move_at, move_count};
+use crate::pairs::{Slots, bound_with};
 use crate::running::Running;
+use crate::singles::{Single, forget, no_singles};
 use amm_model::limits::PRICE_LIMIT;
 use amm_model::{Memory, OpenProblem, Prices, Problem, Turn};
 use std::alloc::Global;
@@ -25,7 +28,9 @@ pub fn descended(alloc: Global, problem: &OpenProblem, start: &Prices) -> Result
 {
     let mut running = Running::new(alloc, problem, start)?;
     lower_prices(&mut running);
-    while pass(&mut running) {}
+    let mut list = no_singles(alloc, problem)?;
+    let singles = list.as_mut_slice();
+    while pass(&mut running, singles) {}
     Ok(running.into_prices())
 }
 
@@ -47,9 +52,11 @@ pub fn open_settled(alloc: Global, problem: &OpenProblem, prices: &Prices) -> Re
         return Ok(false);
     }
     let mut running = Running::new(alloc, problem, prices)?;
+    let mut list_of_singles = no_singles(alloc, problem)?;
+    let singles = list_of_singles.as_mut_slice();
     let before = running.bound();
     for n in 0..move_count(problem) {
-        if improve_at(&mut running, n, before) {
+        if improve_at(&mut running, singles, n, before) {
             return Ok(false);
         }
     }
@@ -57,7 +64,9 @@ pub fn open_settled(alloc: Global, problem: &OpenProblem, prices: &Prices) -> Re
 }
 
 // Takes each move that helps, one after the other; whether any did.
-fn pass(running: &mut Running<'_>) -> bool
+fn pass(running: &mut Running<'_>, singles: &mut [Single]) -> bool
+    requires singles { AreSingles running.old.problem running.old.prices singles.old }
+    ensures singles { AreSingles running.new.problem running.new.prices singles.new }
     ensures problem { running.new.problem ≡ running.old.problem }
     ensures many { length running.new.prices ≡ length running.old.prices }
     ensures unit { price_of running.new.problem.tokens running.new.prices running.new.problem.t ≡ price_of running.old.problem.tokens running.old.prices running.old.problem.t }
@@ -68,7 +77,7 @@ fn pass(running: &mut Running<'_>) -> bool
     let mut before = running.bound();
     let mut helped = false;
     for n in 0..count {
-        if improve_at(running, n, before) {
+        if improve_at(running, singles, n, before) {
             helped = true;
             before = running.bound();
         }
@@ -77,10 +86,12 @@ fn pass(running: &mut Running<'_>) -> bool
 }
 
 // Takes the move of this number, if there is one and it helps; whether it did.
-fn improve_at(running: &mut Running<'_>, n: usize, before: u128) -> bool
+fn improve_at(running: &mut Running<'_>, singles: &mut [Single], n: usize, before: u128) -> bool
+    requires singles { AreSingles running.old.problem running.old.prices singles.old }
     requires number { n < 64 * (length running.old.problem.tokens + length running.old.problem.pools) }
     requires before { before ≡ bound_of running.old.problem running.old.prices }
     requires below { before < 2 ^ 108 }
+    ensures singles { AreSingles running.new.problem running.new.prices singles.new }
     ensures problem { running.new.problem ≡ running.old.problem }
     ensures many { length running.new.prices ≡ length running.old.prices }
     ensures unit { price_of running.new.problem.tokens running.new.prices running.new.problem.t ≡ price_of running.old.problem.tokens running.old.prices running.old.problem.t }
@@ -93,16 +104,18 @@ fn improve_at(running: &mut Running<'_>, n: usize, before: u128) -> bool
     let Some(step) = move_at(problem, n) else {
         return false;
     };
-    improve(running, step, before)
+    improve(running, singles, step, before)
 }
 
 // Takes the move if it lowers the bound, which is `before`, by more than one part in 65536.
-fn improve(running: &mut Running<'_>, step: Move, before: u128) -> bool
+fn improve(running: &mut Running<'_>, singles: &mut [Single], step: Move, before: u128) -> bool
+    requires singles { AreSingles running.old.problem running.old.prices singles.old }
     requires first { step.first.place < length running.old.prices }
     requires second { IfSome step.second (λ turn. (turn.place < length running.old.prices) × (turn.place ≢ step.first.place)) }
     requires size { step.k ≤ 16 }
     requires before { before ≡ bound_of running.old.problem running.old.prices }
     requires below { before < 2 ^ 108 }
+    ensures singles { AreSingles running.new.problem running.new.prices singles.new }
     ensures problem { running.new.problem ≡ running.old.problem }
     ensures taken { result ≡ true → running.new.prices ≡ prices_after step.k running.old.prices (turns_of step) }
     ensures ranges { ArePrices running.new.prices }
@@ -114,13 +127,40 @@ fn improve(running: &mut Running<'_>, step: Move, before: u128) -> bool
         let _ranges = running.price(step.first.place);
         return false;
     };
-    if running.bound_after(changes) + before / 65536 >= before {
+    let after = bound_with(running, singles, changes, slots_of(step));
+    if after + before / 65536 >= before {
         let _ranges = running.price(step.first.place);
         return false;
     }
     running.change(changes);
+    forget(running, singles);
     let _ranges = running.price(step.first.place);
     true
+}
+
+// Where the turns of a move are kept among those of their tokens.
+fn slots_of(step: Move) -> Slots
+    ensures { (result.first < 32) × (result.second < 32) }
+{
+    let first = slot_of(step.k, step.first);
+    match step.second {
+        None => Slots {
+            first,
+            second: first,
+        },
+        Some(turn) => Slots {
+            first,
+            second: slot_of(step.k, turn),
+        },
+    }
+}
+
+// Another place for each turn of a token.
+fn slot_of(k: u32, turn: Turn) -> usize
+    ensures { result < 32 }
+{
+    let size = k as usize % 16;
+    if turn.up { size + 16 } else { size }
 }
 
 // The prices of a move; None where one of them is no price.

@@ -12,9 +12,11 @@ mod descent;
 mod lower;
 mod moves;
 mod nexts;
+mod pairs;
 mod plan;
 mod running;
 mod settling;
+mod singles;
 
 pub use changes::{Change, Changes};
 pub use descent::{descended, open_settled, settled};

@@ -1,6 +1,6 @@
 //! A problem and prices that change one by one, with the worth of each pool at them.
-ghost use Rattle.std.specs.Prelude.{◌≡◌, ◌≢◌, ℕ, List, ◌+◌, ◌*◌, ◌/◌, ◌<◌, ◌≤◌, ◌^◌, length, map, slice_set, slice_index, sum_by, IfOk};
-ghost use Rattle.amm_model.specs.Routing.{ArePrices, HasReserves, IsOpenProblem, fee_of, places_of};
+ghost use Rattle.std.specs.Prelude.{◌≡◌, ◌≢◌, ℕ, List, ◌+◌, ◌*◌, ◌/◌, ◌<◌, ◌≤◌, ◌^◌, length, map, slice_set, slice_index, slice_index_or, sum_by, IfOk};
+ghost use Rattle.amm_model.specs.Routing.{ArePrices, HasReserves, IsOpenProblem, fee_of, no_pool, places_of};
 ghost use Rattle.amm_model.specs.Bound.{bound_of, part_value, pool_worth, worth_of};
 ghost use Rattle.amm_dual.specs.Nexts.{AreNexts, IsNext, IsNextOfBoth};
 ghost use Rattle.amm_dual.specs.Running.{IsBalance, RunningView, after};
@@ -22,11 +22,11 @@ pub struct Running<'p> {
     nexts: Vec<Nexts>,
 }
 
-// What some pools are worth after changes, and what they were worth before.
+/// What some pools are worth after changes, and what they were worth before.
 #[derive(Clone, Copy, Drop)]
-struct Balance {
-    gained: u128,
-    lost: u128,
+pub struct Balance {
+    pub gained: u128,
+    pub lost: u128,
 }
 
 impl<'p> Model for Running<'p> {
@@ -105,6 +105,35 @@ impl<'p> Running<'p> {
         self.prices[token]
     }
 
+    /// The worth of a pool at the prices as set.
+    pub fn worth(&self, i: usize) -> u128
+        requires { i < length self.now.problem.pools }
+        ensures value { result ≡ pool_worth self.now.problem.tokens self.now.prices (slice_index_or self.now.problem.pools i no_pool) }
+        ensures below { result < 2 ^ 99 }
+    {
+        self.worths[i]
+    }
+
+    /// The sum of the worths of all pools at the prices as set.
+    pub fn worths(&self) -> u128
+        ensures value { result ≡ sum_by (pool_worth self.now.problem.tokens self.now.prices) self.now.problem.pools }
+        ensures below { result ≤ 2 ^ 107 }
+    {
+        self.total
+    }
+
+    /// The worth of a pool after the changes.
+    pub fn worth_with(&self, changes: Changes, i: usize) -> u128
+        requires ranges { ArePrices (after self.now.prices changes) }
+        requires within { i < length self.now.problem.pools }
+        ensures value { result ≡ pool_worth self.now.problem.tokens (after self.now.prices changes) (slice_index_or self.now.problem.pools i no_pool) }
+        ensures below { result < 2 ^ 99 }
+    {
+        let pools = self.problem.pools();
+        let places = self.problem.places();
+        worth_after(self.worths[i], &pools[i], places[i], &self.prices, changes)
+    }
+
     /// The bound at the prices as set.
     pub fn bound(&self) -> u128
         ensures value { result ≡ bound_of self.now.problem self.now.prices }
@@ -121,8 +150,19 @@ impl<'p> Running<'p> {
         ensures value { result ≡ bound_of self.now.problem (after self.now.prices changes) }
         ensures below { result < 2 ^ 108 }
     {
+        self.bound_where(changes, self.pools_after(changes))
+    }
+
+    /// The bound after the changes, where all pools are worth this after them.
+    pub fn bound_where(&self, changes: Changes, worths: u128) -> u128
+        requires ranges { ArePrices (after self.now.prices changes) }
+        requires worths { worths ≡ sum_by (pool_worth self.now.problem.tokens (after self.now.prices changes)) self.now.problem.pools }
+        requires below { worths < 2 ^ 107 + 1 }
+        ensures value { result ≡ bound_of self.now.problem (after self.now.prices changes) }
+        ensures below { result < 2 ^ 108 }
+    {
         let target = self.problem.target();
-        let value = self.parts_after(changes) + self.pools_after(changes);
+        let value = self.parts_after(changes) + worths;
         value / price_after(&self.prices, changes, target) as u128
     }
 
@@ -172,8 +212,8 @@ impl<'p> Running<'p> {
         value
     }
 
-    // The sum of the worths of all pools after the changes.
-    fn pools_after(&self, changes: Changes) -> u128
+    /// The sum of the worths of all pools after the changes.
+    pub fn pools_after(&self, changes: Changes) -> u128
         requires ranges { ArePrices (after self.now.prices changes) }
         ensures value { result ≡ sum_by (pool_worth self.now.problem.tokens (after self.now.prices changes)) self.now.problem.pools }
         ensures below { result < 2 ^ 107 + 1 }
@@ -216,8 +256,8 @@ impl<'p> Running<'p> {
         first.min(second)
     }
 
-    // The first of the pools from a place on that has the token; their number, where none has it.
-    fn next_with(&self, token: usize, i: usize) -> usize
+    /// The first of the pools from a place on that has the token; their number, where none has it.
+    pub fn next_with(&self, token: usize, i: usize) -> usize
         requires { i ≤ length self.now.problem.pools }
         ensures { IsNext (map (places_of self.now.problem.tokens) self.now.problem.pools) token i result }
     {

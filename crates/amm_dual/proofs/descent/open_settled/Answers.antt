@@ -1,6 +1,8 @@
 use Rattle.std.proofs.Common.{◌≡◌, ◌∙◌, ◌<◌, ◌^◌, ◌+◌, ◌*◌, length, List, ℕ, subst, sym, ap, arith, refl, below_more, true, false, get_or}
 use Rattle.amm_model.specs.Routing.{OpenView}
-use Rattle.amm_model.specs.Bound.{price_of}
+use Rattle.amm_model.specs.Bound.{bound_of, price_of}
+use Rattle.amm_dual.specs.declared.singles.Single.{Single}
+use Rattle.amm_dual.specs.Singles.{AreSingles}
 use Rattle.amm_dual.specs.Moves.{Helps, NoHelpAt}
 use Rattle.amm_dual.proofs.Numbers.{move_sound}
 use Rattle.amm_dual.proofs.Steps.{not_settled, settled-from}
@@ -24,6 +26,7 @@ loop-n-preserved c =
     let here : NoHelpAt problem prices c.loop-n.n = subst (λ (o : OpenView). NoHelpAt o prices c.loop-n.n) c.loop-n.invariant.problem
     (subst (λ (ps : List ℕ). NoHelpAt c.loop-n.running.problem ps c.loop-n.n) c.loop-n.invariant.prices (c.improve_at.ensures.steady c.if-improve_at.false)) in
     record {
+      singles = c.improve_at.ensures.singles;
       problem = c.improve_at.ensures.problem ∙ c.loop-n.invariant.problem;
       prices = c.improve_at.ensures.kept c.if-improve_at.false ∙ c.loop-n.invariant.prices;
       before = c.loop-n.invariant.before;
@@ -40,3 +43,17 @@ returns c =
           (λ n below. c.loop-n.invariant.none n (omega (arith, c.loop-n-test.false, c.move_count-n-end.ensures)))),
       (λ settled. refl),
     )
+
+pub loop-n-init : goal.loop-n-init
+loop-n-init c =
+    let running = c.in_ok-running.running in
+    let same = c.in_ok-running.ensures.problem in
+    let prices = c.in_ok-running.ensures.prices in
+    record {
+      singles = subst (λ (list : List Single). AreSingles running.problem running.prices list) (sym c.as_mut_slice-singles.ensures.value)
+          (subst (λ (o : OpenView). AreSingles o running.prices c.in_ok-list_of_singles.list_of_singles.items) (sym same) (c.in_ok-list_of_singles.ensures running.prices));
+      problem = same;
+      prices = prices;
+      before = c.bound-before.ensures.value ∙ ap (λ (o : OpenView). bound_of o running.prices) same ∙ ap (bound_of c.args.problem.now) prices;
+      none = λ n below. absurd (omega arith);
+    }

@@ -14,6 +14,7 @@ loop-n-preserved c =
     let count = inv.count ∙ ap (λ (o : OpenView). 64 * (length o.tokens + length o.pools)) (sym c.improve_at.ensures.problem) in
     elim c.if-improve_at.branch [
       | then-improve_at w ↦ record {
+        singles = c.improve_at.ensures.singles;
         problem = c.improve_at.ensures.problem ∙ inv.problem;
         many = c.improve_at.ensures.many ∙ inv.many;
         unit = c.improve_at.ensures.unit ∙ inv.unit;
@@ -24,6 +25,7 @@ loop-n-preserved c =
         kept = λ h. absurd (let e : true ≡ false = cc in cc);
       }
       | else-improve_at w ↦ record {
+        singles = c.improve_at.ensures.singles;
         problem = c.improve_at.ensures.problem ∙ inv.problem;
         many = c.improve_at.ensures.many ∙ inv.many;
         unit = c.improve_at.ensures.unit ∙ inv.unit;
