@@ -51,6 +51,10 @@ command_fixes old (command.certificate number) a b p q same = ap (ledger_after o
 command_fixes old (command.pool pool) a b p q same = ap (ledger_after old) (sym p ∙ q)
 command_fixes old (command.balance asset holder) a b p q same = ap (ledger_after old) (sym p ∙ q)
 command_fixes old (command.total asset) a b p q same = ap (ledger_after old) (sym p ∙ q)
+command_fixes old (command.observe actor pool) a b p q same = ap (ledger_after old) (sym p ∙ q)
+command_fixes old (command.average first second) a b p q same = ap (ledger_after old) (sym p ∙ q)
+command_fixes old (command.consult first second token n) a b p q same = ap (ledger_after old) (sym p ∙ q)
+command_fixes old (command.window pool seconds) a b p q same = ap (ledger_after old) (sym p ∙ q)
 command_fixes old (command.act actor step) a b p q same = ap (ledger_after old) (sym p ∙ q)
 
 -- two outcomes of a line

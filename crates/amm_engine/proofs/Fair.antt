@@ -11,7 +11,7 @@ use Rattle.amm_model.specs.declared.reply.Answer.TheVariants as answers
 use Rattle.amm_model.specs.declared.reply.Reply.{Reply}
 use Rattle.amm_model.specs.declared.route.Quote.{Quote}
 use Rattle.amm_model.specs.Outcome.{Made, Outcome}
-use Rattle.amm_model.specs.Ledger.{Ledger, pair_of, quote_of, with_quote}
+use Rattle.amm_model.specs.Ledger.{Ledger, observation_at, pair_of, quote_of, with_quote}
 use Rattle.amm_model.specs.Postings.{list_token, issue, retire, set_time}
 use Rattle.amm_model.specs.Routing.{delivered_by, open_view}
 use Rattle.amm_model.specs.Sound.{IsSound, IsAtRest}
@@ -19,11 +19,12 @@ use Rattle.amm_model.specs.SplitAnswers.{IsSplitAnswer}
 use Rattle.amm_model.specs.Splits.{KeepsQuote, Routes, may_split}
 use Rattle.amm_model.specs.Fits.{Fits}
 use Rattle.amm_model.specs.Factory.{set_fee_to, set_setter}
+use Rattle.amm_model.specs.Oracle.{average, consult, observe, window}
 use Rattle.amm_model.specs.Router.{amounts_out, amounts_in}
 use Rattle.amm_model.specs.Laws.{ZeroKept, TokenTotalsKept}
 use Rattle.amm_model.specs.CommandView as command
 use Rattle.amm_model.specs.CommandView.{CommandView}
-use Rattle.amm_model.specs.Meaning.{MayComeTo, known_asset, deposit, withdraw, query, pool_answer, outcome_with}
+use Rattle.amm_model.specs.Meaning.{MayComeTo, known_asset, deposit, withdraw, query, pool_answer, outcome_with, observe_answer}
 use Rattle.amm_model.specs.Answers.{ComesTo, answer_of, ledger_after}
 use Rattle.amm_model.specs.Reading.{command_of_line}
 use Rattle.amm_model.specs.Runs.{FairStep, IsUnbeaten, OfCommand, SettledBy, Step, one_reply, TotalsMoved, TotalsMovedBy}
@@ -34,6 +35,7 @@ use Rattle.amm_model.proofs.Keeping.{Keeps, plain_keeps, rest_kept}
 use Rattle.amm_model.proofs.Laters.{kept_rest}
 use Rattle.amm_model.proofs.PlainSound.{list_listed, list_plain, list_rest, list_totals, issue_plain, issue_rest, issue_deposited, retire_plain, retire_rest, retire_withdrawn, set_time_plain, set_time_sound, set_time_totals}
 use Rattle.amm_factory.proofs.Settings.{set_fee_to_keeps, set_fee_to_sound, set_setter_keeps, set_setter_sound}
+use Rattle.amm_oracle.proofs.Observed.{observe_rest, observe_totals, observe_zero}
 use Rattle.amm_model.proofs.Fitting.{reads_fitting}
 use Rattle.amm_script.proofs.Laws.{step_kept}
 use Rattle.amm_script.proofs.Settlements.{quote_has}
@@ -139,6 +141,19 @@ certificate_accepted old number quote rest is =
     let there = was_some (quote_of old.quotes number) code.NoQuote quote is in
     record { accepted = λ why e. cc; written = split_writable quote (quote_has IsSplitAnswer old.quotes number quote rest.sound.answers there); unbeaten = tt }
 
+-- what an observation leaves
+observe_promised : (old : Ledger) (actor p : List ℕ) (made : Made Answer) → IsAtRest old → observe_answer (observe old p) ≡ Ok made
+    → Promised (command.observe actor p) old made.ledger made.answer
+observe_promised old actor p made rest is =
+    let first = given (observe old p) _ made is in
+    let kept = given (ok_or (observation_at first.value.ledger.observations first.value.answer) code.NoObservation) _ made first.after in
+    subst (λ (k : Made Answer). Promised (command.observe actor p) old k.ledger k.answer) (same_answer _ made kept.after) (record {
+      rest = observe_rest old p first.value first.was rest;
+      zero = observe_zero old p first.value first.was;
+      totals = observe_totals old p first.value first.was;
+      told = record { accepted = λ why e. cc; written = tt; unbeaten = tt };
+    })
+
 -- what every accepted command promises
 pub promised : (old : Ledger) (asked : CommandView) (made : Made Answer) → Fits asked → IsAtRest old → MayComeTo old asked (Ok made) → Promised asked old made.ledger made.answer
 unfolding MayComeTo
@@ -163,6 +178,16 @@ promised old (command.balance asset holder) made fits rest is =
     asked_only (command.balance asset holder) old (known_asset old asset) _ made rest (λ x token. refl) (λ x was. record { accepted = λ why e. cc; written = tt; unbeaten = tt }) is
 promised old (command.total asset) made fits rest is =
     asked_only (command.total asset) old (known_asset old asset) _ made rest (λ x token. refl) (λ x was. record { accepted = λ why e. cc; written = tt; unbeaten = tt }) is
+promised old (command.observe actor p) made fits rest is = observe_promised old actor p made rest is
+promised old (command.average first second) made fits rest is =
+    asked_only (command.average first second) old (average old first second) answers.Average made rest
+    (λ x token. refl) (λ x was. record { accepted = λ why e. cc; written = tt; unbeaten = tt }) is
+promised old (command.consult first second token n) made fits rest is =
+    asked_only (command.consult first second token n) old (consult old first second token n) answers.Consult made rest
+    (λ x name. refl) (λ x was. record { accepted = λ why e. cc; written = tt; unbeaten = tt }) is
+promised old (command.window p seconds) made fits rest is =
+    asked_only (command.window p seconds) old (window old p seconds) answers.Window made rest
+    (λ x token. refl) (λ x was. record { accepted = λ why e. cc; written = tt; unbeaten = tt }) is
 promised old (command.act actor step) made fits rest is =
     let kept = step_kept step old actor made fits.0 fits.1 is in record {
       rest = kept_rest old made.ledger kept rest;
@@ -195,6 +220,10 @@ refused_totals (command.withdraw user token n) why old = λ name. refl
 refused_totals (command.time n) why old = λ name. refl
 refused_totals (command.balance asset holder) why old = λ name. refl
 refused_totals (command.total asset) why old = λ name. refl
+refused_totals (command.observe actor p) why old = λ name. refl
+refused_totals (command.average first second) why old = λ name. refl
+refused_totals (command.consult first second token n) why old = λ name. refl
+refused_totals (command.window p seconds) why old = λ name. refl
 refused_totals (command.act actor step) why old = λ name. refl
 refused_totals (command.fee_to actor to) why old = λ name. refl
 refused_totals (command.setter actor to) why old = λ name. refl

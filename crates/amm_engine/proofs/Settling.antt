@@ -100,3 +100,7 @@ settled old (command.certificate number) outcome rest comes = tt
 settled old (command.pool p) outcome rest comes = tt
 settled old (command.balance asset holder) outcome rest comes = tt
 settled old (command.total asset) outcome rest comes = tt
+settled old (command.observe actor p) outcome rest comes = tt
+settled old (command.average first second) outcome rest comes = tt
+settled old (command.consult first second token n) outcome rest comes = tt
+settled old (command.window p seconds) outcome rest comes = tt

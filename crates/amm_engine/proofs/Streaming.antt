@@ -20,6 +20,7 @@ use Rattle.amm_model.specs.Runs.{FairStep, output_of}
 use Rattle.amm_model.specs.ReplyText.{reply_text}
 use Rattle.amm_engine.specs.Service.{AnswersLine, AnswersAll, StopsInReply, AreWholeLines, ServesAll, ServesEnded, ServesToLimit, BreaksOff, LacksMemory}
 use Rattle.amm_model.proofs.RunLemmas.{RunBy-more}
+use Rattle.amm_history.proofs.Told.{tells_averages}
 use Rattle.amm_engine.proofs.Parts.{end_part, parts_of-parts, parts_of-unbroken, ended_parts_of-parts, ended_parts_of-unbroken, AllByRecursion-push, length-parts, whole_lines, lines_of-parts}
 
 -- Each part so far was ended by a newline within the limit, and what is kept comes after them.
@@ -63,7 +64,7 @@ Streaming-start limit old left before lines is =
       parts = [];
       numbered = refl;
       bound = omega arith;
-      answered = record { replies = []; run = (refl, refl); written = Appends-nil before };
+      answered = record { replies = []; run = (refl, refl); averages = tells_averages old 1 [] [] old (refl, refl); written = Appends-nil before };
       state = inl (record { unbroken = tt; whole = refl; within = omega arith; not_at_end = λ e. cc; not_failed = λ e. cc });
     })
 
@@ -82,9 +83,11 @@ whole_more parts part kept =
 AnswersAll-more : (old : Ledger) (front : List Line) (before now later : Option (List ℕ)) (ledger new : Ledger) (line : Line) (text : List ℕ)
     → AnswersAll old front before now ledger → AnswersLine ledger (1 + length front) line text new → Appends now later text → AnswersAll old (front ++ line ∷ []) before later new
 AnswersAll-more old front before now later ledger new line text all answers written =
+    let run = RunBy-more FairStep _ _ _ _ _ _ _ _ all.run answers.step in
     record {
       replies = all.replies ++ answers.replies;
-      run = RunBy-more FairStep _ _ _ _ _ _ _ _ all.run answers.step;
+      run = run;
+      averages = tells_averages old 1 (front ++ line ∷ []) (all.replies ++ answers.replies) new run;
       written = subst (Appends before later) (ap (λ t. output_of all.replies ++ t) answers.is ∙ sym (flat_map-append reply_text all.replies answers.replies))
           (Appends-trans before now later _ _ all.written written);
     }
@@ -275,7 +278,7 @@ LacksMemory-start limit old left before =
       taken = Consumes-nil left;
       most = omega arith;
       whole = inl refl;
-      answered = inl (record { replies = []; run = (refl, refl); written = Appends-nil before });
+      answered = inl (record { replies = []; run = (refl, refl); averages = tells_averages old 1 [] [] old (refl, refl); written = Appends-nil before });
     }
 
 -- all lines came

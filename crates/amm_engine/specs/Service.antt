@@ -7,6 +7,7 @@ use Rattle.amm_model.specs.declared.reply.Reply.{Reply}
 use Rattle.amm_model.specs.Ledger.{Ledger}
 use Rattle.amm_model.specs.Lines.{lines_of, ended_lines_of}
 use Rattle.amm_model.specs.Runs.{FairRun, FairStep, output_of}
+use Rattle.amm_history.specs.History.{TellsAverages}
 
 -- The text is that of the replies which the line with this number may have in the old ledger, and
 -- they leave the new one.
@@ -16,10 +17,11 @@ pub record AnswersLine (old : Ledger) (number : ℕ) (line : Line) (text : List 
   pub is : text ≡ output_of replies
 
 -- All lines were answered: the sink took the output of a run over them, from the old ledger to the
--- new.
+-- new, in which the averages of the price oracle are the time-weighted ones.
 pub record AnswersAll (old : Ledger) (lines : List Line) (before after : Option (List ℕ)) (new : Ledger) : Type 0 where
   pub replies : List Reply
   pub run : FairRun old 1 lines replies new
+  pub averages : TellsAverages old 1 lines replies
   pub written : Appends before after (output_of replies)
 
 -- All lines but the last were answered, and of the reply to the last a part was written, but not

@@ -10,6 +10,7 @@ ghost use Rattle.amm_model.specs.declared.reply.Answer.TheVariants as answers;
 ghost use Rattle.amm_state.specs.Tx.{Meets};
 ghost use Rattle.amm_engine.specs.Commands.{DoesCommand};
 
+use crate::oracle::{average, consult, observe, window};
 use crate::queries::{balance, certificate, pool_record, quote_in, quote_out, total};
 use crate::split::split;
 use amm_model::{Answer, Asset, Command, Fault, Holder, TokenName, UserName};
@@ -37,6 +38,15 @@ pub(crate) fn perform(alloc: Global, tx: &mut Tx, command: &Command) -> Result<A
         Command::Pool { pool } => pool_record(tx, pool),
         Command::Balance { asset, holder } => balance(tx, asset, holder),
         Command::Total { asset } => total(tx, asset),
+        Command::Observe { pool, .. } => observe(alloc, tx, pool),
+        Command::Average { first, second } => average(tx, *first, *second),
+        Command::Consult {
+            first,
+            second,
+            token,
+            n,
+        } => consult(tx, *first, *second, token, *n),
+        Command::Window { pool, seconds } => window(tx, pool, *seconds),
         Command::Act { actor, step } => run_step(alloc, tx, actor, step),
     }
 }

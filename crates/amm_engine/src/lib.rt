@@ -7,6 +7,7 @@
 mod dispatch;
 mod engine;
 mod laws;
+mod oracle;
 mod queries;
 mod split;
 mod status;

@@ -7,6 +7,7 @@ use Rattle.amm_io.specs.Causes.{HasCause, Rose}
 use Rattle.amm_io.specs.Traffic.{TakesWithin}
 use Rattle.amm_model.specs.Ledger.{Ledger, opening_ledger}
 use Rattle.amm_model.specs.Lines.{lines_of}
+use Rattle.amm_history.specs.History.{TellsAverages}
 use Rattle.amm_model.specs.Runs.{FairRun}
 use Rattle.amm_engine.specs.declared.status.Status.{Status}
 use Rattle.amm_engine.specs.declared.status.Status.TheVariants.{Done, No, Usage, ReadFault, WriteFault, Memory, InputLimit}
@@ -28,6 +29,7 @@ RepliesToAll-done limit input before (Some all) (Some rest) (Some first) (Some a
       replies = s.answered.replies;
       final = final;
       run = subst (λ l. FairRun opening_ledger 1 (lines_of l) s.answered.replies final) (sym taken) s.answered.run;
+      averages = subst (λ l. TellsAverages opening_ledger 1 (lines_of l) s.answered.replies) (sym taken) s.answered.averages;
       output = cc (s.answered.written, is);
     }
 RepliesToAll-done limit input before (Some all) None written_before written_after left is (final, s) = absurd s.taken

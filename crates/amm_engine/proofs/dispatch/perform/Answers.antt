@@ -47,6 +47,22 @@ pub returns-in-Total : goal.returns-in-Total
 unfolding MayComeTo
 returns-in-Total c = record { does = rw c.in-Total.is (does _ _ _ _ _ refl c.total.ensures.meets) }
 
+pub returns-in-Observe : goal.returns-in-Observe
+unfolding MayComeTo
+returns-in-Observe c = record { does = rw c.in-Observe.is (does _ _ _ _ _ refl c.observe.ensures.meets) }
+
+pub returns-in-Average : goal.returns-in-Average
+unfolding MayComeTo
+returns-in-Average c = record { does = rw c.in-Average.is (does _ _ _ _ _ refl c.average.ensures.meets) }
+
+pub returns-in-Consult : goal.returns-in-Consult
+unfolding MayComeTo
+returns-in-Consult c = record { does = rw c.in-Consult.is (does _ _ _ _ _ refl c.consult.ensures.meets) }
+
+pub returns-in-Window : goal.returns-in-Window
+unfolding MayComeTo
+returns-in-Window c = record { does = rw c.in-Window.is (does _ _ _ _ _ refl c.window.ensures.meets) }
+
 pub returns-in-Act : goal.returns-in-Act
 unfolding MayComeTo
 returns-in-Act c = record { does = rw c.in-Act.is (does _ _ _ _ _ refl c.run_step.ensures.meets) }
