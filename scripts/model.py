@@ -24,7 +24,7 @@ FEES = (1, 3, 10)
 WORDS = """BAD_JSON BAD_COMMAND LONG_LINE TOKEN_LIMIT TOTAL_LIMIT UNKNOWN_TOKEN FUNDS TIME_BACK IDENTICAL PAIR_EXISTS PAIR_LIMIT FORBIDDEN NO_PAIR LOCKED
 INSUFFICIENT_OUTPUT_AMOUNT INSUFFICIENT_LIQUIDITY INVALID_TO INSUFFICIENT_INPUT_AMOUNT K OVERFLOW INSUFFICIENT_LIQUIDITY_MINTED INSUFFICIENT_LIQUIDITY_BURNED
 EXPIRED INSUFFICIENT_A_AMOUNT INSUFFICIENT_B_AMOUNT INSUFFICIENT_AMOUNT EXCESSIVE_INPUT_AMOUNT AMOUNT_LIMIT ZERO_AMOUNT NO_ROUTE QUOTE_LIMIT NO_QUOTE
-STALE""".split()
+STALE OBSERVATION_LIMIT NO_OBSERVATION BAD_WINDOW""".split()
 
 
 class Refused(Exception):
@@ -153,6 +153,10 @@ FORMS = {
     "pool": (is_pool,),
     "balance": (is_asset, is_holder),
     "total": (is_asset,),
+    "observe": (is_user, is_pool),
+    "average": (is_amount, is_amount),
+    "consult": (is_amount, is_amount, is_token, is_amount),
+    "window": (is_pool, is_amount),
 }
 STEPS = {"transfer", "create", "mint", "burn", "swap", "skim", "sync", "flash", "add", "remove", "swapin", "swapout", "settle"}
 
@@ -191,6 +195,7 @@ class Ledger:
         self.bal, self.tokens, self.pairs = {}, [], {}
         self.fee_to, self.setter, self.time = "0", "admin", 0
         self.quotes = ()
+        self.observations = ()
 
     # ---- balances
 
@@ -422,6 +427,43 @@ class Ledger:
             self.swap(pool, *((0, bought) if token == parts(pool)[0] else (bought, 0)), actor)
         return [quote.delivered]
 
+    # ---- the price oracle
+
+    def observe(self, pool):
+        pair = self.free(pool)
+        self.update(pool)
+        refuse_if(len(self.observations) >= 4096, "OBSERVATION_LIMIT")
+        self.observations += ((pool, self.time, pair.acc0, pair.acc1),)
+        return [len(self.observations), self.time, str(pair.acc0), str(pair.acc1)]
+
+    def observation(self, number):
+        refuse_if(not 1 <= number <= len(self.observations), "NO_OBSERVATION")
+        return self.observations[number - 1]
+
+    def averages(self, i, j):
+        """The average prices of token 0 and token 1 between two observations."""
+        (pool, start, *before), (other, end, *after) = self.observation(i), self.observation(j)
+        refuse_if(pool != other or not 0 < end - start < 2**32, "BAD_WINDOW")
+        return [(now - was) % 2**128 // (end - start) for was, now in zip(before, after)]
+
+    def consult(self, i, j, token, amount):
+        averages = self.averages(i, j)
+        tokens = parts(self.observation(i)[0])[:2]
+        refuse_if(token not in tokens, "UNKNOWN_TOKEN")
+        bought = averages[tokens.index(token)] * amount // 2**48
+        refuse_if(bought > AMOUNT, "AMOUNT_LIMIT")
+        return [bought]
+
+    def window(self, pool, seconds):
+        refuse_if(pool not in self.pairs, "NO_PAIR")
+        refuse_if(seconds == 0, "ZERO_AMOUNT")
+        own = [(number, kept[1]) for number, kept in enumerate(self.observations, 1) if kept[0] == pool]
+        refuse_if(not own, "NO_OBSERVATION")
+        last, end = own[-1]
+        far = [number for number, time in own if time <= end - seconds]
+        refuse_if(not far, "NO_OBSERVATION")
+        return [far[-1], last, *map(str, self.averages(far[-1], last))]
+
     # ---- commands
 
     def act(self, kind, actor, *rest):
@@ -500,6 +542,12 @@ class Ledger:
             refuse_if(rest[0] != self.setter, "FORBIDDEN")
             setattr(self, "fee_to" if kind == "feeto" else "setter", rest[1])
             return []
+        if kind == "observe":
+            return self.observe(rest[1])
+        if kind == "average":
+            return [str(price) for price in self.averages(*rest)]
+        if kind in ("consult", "window"):
+            return getattr(self, kind)(*rest)
         if kind == "quoteout":
             return [self.amounts_out(path_of(rest[0]), rest[1])]
         if kind == "quotein":
@@ -513,7 +561,7 @@ class Ledger:
 
     def answer(self, line, told=""):
         """The reply to a line that is not blank, without its number, where this one was told. A refused line changes nothing."""
-        quotes = self.quotes
+        quotes, observations = self.quotes, self.observations
         before = copy.deepcopy((self.bal, self.tokens, self.pairs, self.fee_to, self.setter, self.time))
         try:
             refuse_if(len(line) > 65536, "LONG_LINE")
@@ -528,7 +576,7 @@ class Ledger:
             return ["ok", *self.perform(told, *value)]
         except (Refused, Wrong) as why:
             self.bal, self.tokens, self.pairs, self.fee_to, self.setter, self.time = before
-            self.quotes = quotes
+            self.quotes, self.observations = quotes, observations
             if isinstance(why, Wrong):
                 return ["wrong", str(why)]
             return ["no", WORDS.index(why.word) + 1, why.word]
