@@ -1,6 +1,4 @@
-//! Flash swaps with their steps, and a day of all kinds.
-use super::evening::EVENING;
-use super::morning::MORNING;
+//! Flash swaps with their steps.
 use super::session::{ETH_USD, is_run, is_transcript};
 use std::test::Fail;
 
@@ -40,12 +38,6 @@ fn asks_for_the_return(rt: HostRuntime) -> Result<(), Fail> {
 #[test]
 fn lends_inside_a_loan(rt: HostRuntime) -> Result<(), Fail> {
     assert!(rt; is_transcript(&rt, &[ETH_USD, NESTED])?);
-    Ok(())
-}
-
-#[test]
-fn keeps_books_for_a_day(rt: HostRuntime) -> Result<(), Fail> {
-    assert!(rt; is_transcript(&rt, &[MORNING, EVENING])?);
     Ok(())
 }
 
