@@ -1,9 +1,8 @@
 //! The price oracle: observations are kept, and what they tell is asked for.
-ghost use Rattle.std.specs.Prelude.{◌≡◌, ◌≤◌};
+ghost use Rattle.std.specs.Prelude.{◌≡◌};
 ghost use Rattle.amm_model.specs.Meaning.{observe_answer, query};
 ghost use Rattle.amm_model.specs.Oracle.{average, consult, observe, window};
 ghost use Rattle.amm_model.specs.Sound.{IsSound};
-ghost use Rattle.amm_model.specs.declared.limits.TheConstants.{AMOUNT_LIMIT};
 ghost use Rattle.amm_model.specs.declared.reply.Answer.TheVariants as answers;
 ghost use Rattle.amm_state.specs.Tx.{Meets};
 
@@ -31,15 +30,13 @@ pub(crate) fn observe(alloc: Global, tx: &mut Tx, pool: &PoolName) -> Result<Ans
 /// The average prices between two observations.
 pub(crate) fn average(tx: &mut Tx, first: u64, second: u64) -> Result<Answer, Fault>
     requires clean { tx.old.mark ≡ Mark.Clean }
-    requires sound { IsSound tx.old.present }
     ensures meets { Meets tx.old tx.new result (query tx.old.present answers.Average (average tx.old.present first second)) }
 {
     let averages = tx.admit(amm_oracle::average(tx.book(), first, second))?;
     Ok(Answer::Average(averages))
 }
 
-/// What an amount of a token, at most 2^52-1, comes to at the average price between two
-/// observations.
+/// What an amount of a token comes to at the average price between two observations.
 pub(crate) fn consult(
     tx: &mut Tx,
     first: u64,
@@ -48,19 +45,16 @@ pub(crate) fn consult(
     n: u64,
 ) -> Result<Answer, Fault>
     requires clean { tx.old.mark ≡ Mark.Clean }
-    requires sound { IsSound tx.old.present }
-    requires amount { n ≤ AMOUNT_LIMIT }
     ensures meets { Meets tx.old tx.new result (query tx.old.present answers.Consult (consult tx.old.present first second token.now n)) }
 {
     let n = tx.admit(amm_oracle::consult(tx.book(), first, second, token, n))?;
     Ok(Answer::Consult { n })
 }
 
-/// The average prices of a pool over at least so many seconds, at most 2^52-1.
+/// The average prices of a pool over at least so many seconds.
 pub(crate) fn window(tx: &mut Tx, pool: &PoolName, seconds: u64) -> Result<Answer, Fault>
     requires clean { tx.old.mark ≡ Mark.Clean }
     requires sound { IsSound tx.old.present }
-    requires amount { seconds ≤ AMOUNT_LIMIT }
     ensures meets { Meets tx.old tx.new result (query tx.old.present answers.Window (window tx.old.present pool.now seconds)) }
 {
     let found = tx.admit(amm_oracle::window(tx.book(), pool, seconds))?;

@@ -8,7 +8,8 @@ ghost use Rattle.exchange.specs.declared.finding.Finding.TheVariants.{Yes};
 ghost use Rattle.exchange.specs.Findings.{IsFindingOf};
 
 /// The text of a quote that a sound ledger keeps, as it is at each line of a run, is found right:
-/// `check` says yes to every certificate that `run` prints, with the quote's own two numbers.
+/// what `check` has to say of a certificate that `run` prints is a yes with the quote's own two
+/// numbers. That it has at most the bytes that `check` takes is not said.
 pub fn kept_quotes_are_found_right()
     ensures { (ledger : Ledger) (quote : quotes.Quote) → IsSound ledger → Contains ledger.quotes quote →
         IsFindingOf (certificate_text quote) (Yes quote.delivered quote.bound) }
