@@ -30,7 +30,7 @@ use Rattle.std.proofs.lemmas.List.{get_or_default}
 
 -- ---- the tokens of a problem are names of tokens
 
-abbrev IsToken : Name → Type 0
+abbrev pub IsToken : Name → Type 0
 IsToken name = IsTrue (is_token_name name)
 
 pool_tokens : (pools : List ProblemPool) → AllByRecursion (λ (pool : ProblemPool). IsTrue (is_pool_name pool.name)) pools → AllByRecursion IsToken (tokens_of_pools pools)
@@ -40,7 +40,7 @@ pool_tokens (pool ∷ pools) all = let parts = parts_are_pool pool.name all.0 in
 has_of : {X : Type 0} (P : X → Type 0) (xs : List X) (x : X) → All P xs → Contains xs x → P x
 has_of P xs x all (k, below, is) = subst P is (all k x below)
 
-tokens_are : (problem : ProblemView) → IsProblem problem → All IsToken problem.tokens
+pub tokens_are : (problem : ProblemView) → IsProblem problem → All IsToken problem.tokens
 tokens_are problem sound k d below =
     let names : List Name = tokens_named (one_part problem.s problem.d) problem.t problem.pools in
     let named : All IsToken names = All-from_recursion IsToken names
@@ -75,7 +75,7 @@ plain_pools problem sound k d below =
     let b1 : pool.b1 < 2 ^ 64 = omega (arith, b.3) in
     (IsUtf8-pool pool.name (sound.spelled.each k d below), (r0, (r1, (b0, (b1, tt)))))
 
-token_in_is : (pools : List ProblemPool) (leg : Leg) → IsTrue (is_pool_name (leg_pool pools leg).name) → IsToken (token_in pools leg)
+pub token_in_is : (pools : List ProblemPool) (leg : Leg) → IsTrue (is_pool_name (leg_pool pools leg).name) → IsToken (token_in pools leg)
 token_in_is pools leg name = side leg.zero_in
   where
     side : (zero_in : Bool) → IsToken (if zero_in then token0_of (leg_pool pools leg) else token1_of (leg_pool pools leg))

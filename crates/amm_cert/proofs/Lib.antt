@@ -12,3 +12,4 @@ pub mod ReadBack
 pub mod Unique
 pub mod Ascii
 pub mod Certified
+pub mod Sizes

@@ -1,16 +1,18 @@
 -- What a finding says.
-use Rattle.std.proofs.Common.{◌≡◌, ◌≢◌, ◌≤◌, ◌⊎◌, inl, inr, ℕ, List, length, sym, subst, refl, ap, arith, Some}
+use Rattle.std.proofs.Common.{◌≡◌, ◌≢◌, ◌<◌, ◌≤◌, ◌⊎◌, inl, inr, ℕ, List, length, sym, subst, refl, ap, arith, Some}
 use Rattle.std.specs.Prelude.{Contains}
 use Rattle.std.specs.declared.option.Option.{Option}
 use Rattle.std.proofs.lemmas.List.Elements.{All-contains}
 use Rattle.amm_io.specs.Causes.{HasCause, Rose}
 use Rattle.amm_io.specs.Traffic.{TakesWithin}
+use Rattle.amm_model.specs.declared.limits.TheConstants.{CHECK_LIMIT}
 use Rattle.amm_model.specs.declared.route.Quote.{Quote}
 use Rattle.amm_model.specs.Certificate.{certificate_text}
 use Rattle.amm_model.specs.Ledger.{Ledger}
 use Rattle.amm_model.specs.Sound.{IsSound}
 use Rattle.amm_model.specs.SplitAnswers.{IsSplitAnswer}
 use Rattle.amm_cert.proofs.Certified.{answer_certifies}
+use Rattle.amm_cert.proofs.Sizes.{answer_short}
 use Rattle.amm_check.proofs.Judging.{answer_right, unbeaten}
 use Rattle.amm_engine.specs.declared.status.Status.{Status}
 use Rattle.amm_engine.specs.declared.status.Status.TheVariants as statuses
@@ -46,6 +48,10 @@ pub kept_right : (ledger : Ledger) (quote : Quote) → IsSound ledger → Contai
 kept_right ledger quote sound has =
     let split = All-contains IsSplitAnswer ledger.quotes quote sound.answers has in
     (quote, answer_certifies quote split, answer_right quote split, refl, refl)
+
+-- and `check` takes as many bytes as it has
+pub kept_short : (ledger : Ledger) (quote : Quote) → IsSound ledger → Contains ledger.quotes quote → length (certificate_text quote) < CHECK_LIMIT
+kept_short ledger quote sound has = answer_short quote (All-contains IsSplitAnswer ledger.quotes quote sound.answers has)
 
 -- with no fault, an input within its limit is judged, unless memory runs out
 pub judges : (limit : ℕ) (input : List ℕ) (left_before left_after : Option (List ℕ)) (reads reads_after writes writes_after : ℕ) (status : Status)
