@@ -5,7 +5,7 @@ use Rattle.amm_model.specs.declared.route.Hop.{Hop}
 use Rattle.amm_model.specs.Paths.{ComesBefore, hop_places}
 use Rattle.amm_model.specs.Spreads.{AreTaken, AtLeastSpread, IsPreferred, IsSpreadValue, Share, Spread, share_output}
 
-before-not-after : (ps qs : List ℕ) → ComesBefore ps qs → ComesBefore qs ps → ⊥
+pub before-not-after : (ps qs : List ℕ) → ComesBefore ps qs → ComesBefore qs ps → ⊥
 before-not-after [] qs before after = before
 before-not-after (p ∷ ps) [] before after = before
 before-not-after (p ∷ ps) (q ∷ qs) (inl lt) (inl gt) = omega arith
@@ -13,7 +13,7 @@ before-not-after (p ∷ ps) (q ∷ qs) (inl lt) (inr same) = let e = same.0 in o
 before-not-after (p ∷ ps) (q ∷ qs) (inr same) (inl gt) = let e = same.0 in omega arith
 before-not-after (p ∷ ps) (q ∷ qs) (inr same) (inr other) = before-not-after ps qs same.1 other.1
 
-not-before-itself : (ps qs : List ℕ) → ps ≡ qs → ComesBefore ps qs → ⊥
+pub not-before-itself : (ps qs : List ℕ) → ps ≡ qs → ComesBefore ps qs → ⊥
 not-before-itself ps qs e before = before-not-after ps qs before (subst (λ (xs : List ℕ). ComesBefore xs ps) e (subst (ComesBefore ps) (sym e) before))
 
 share-same : (a b : Share) → a.path ≡ b.path → a.parts ≡ b.parts → a ≡ b

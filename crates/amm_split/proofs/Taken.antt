@@ -118,7 +118,7 @@ fits : (problem : ProblemView) (terms : Terms) (left : ℕ) (used : List ℕ) (s
 fits problem terms left used share is = (is.size.0, is.size.1, is.within)
 
 -- nothing that can be taken gains
-stop : (problem : ProblemView) (terms : Terms) (left : ℕ) (used : List ℕ) (paths : List Path) (rows : List Row) (best : Choice) →
+pub stop : (problem : ProblemView) (terms : Terms) (left : ℕ) (used : List ℕ) (paths : List Path) (rows : List Row) (best : Choice) →
     AreAllPaths problem.pools problem.s problem.t (map hops_of paths) → AreRows problem.pools paths terms.d rows → AreTerms terms →
     IsBest terms left used paths rows (length paths) best → best.gain ≡ 0 → AreTaken (spread_over problem terms) left used []
 stop problem terms left used paths rows best all are ranges is none other can =
@@ -132,7 +132,7 @@ stop problem terms left used paths rows best all are ranges is none other can =
         omega arith
 
 -- the best share can be taken, and is preferred to all others that can be
-next : (problem : ProblemView) (terms : Terms) (left : ℕ) (used : List ℕ) (paths : List Path) (rows : List Row) (best : Choice) →
+pub next : (problem : ProblemView) (terms : Terms) (left : ℕ) (used : List ℕ) (paths : List Path) (rows : List Row) (best : Choice) →
     AreAllPaths problem.pools problem.s problem.t (map hops_of paths) → AreRows problem.pools paths terms.d rows → AreTerms terms →
     IsBest terms left used paths rows (length paths) best → 1 ≤ best.gain → (rest : List Share) →
     AreTaken (spread_over problem terms) (left - best.size) (used ++ hop_places (hops_at paths best.path)) rest →

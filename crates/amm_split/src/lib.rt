@@ -21,15 +21,17 @@ mod values;
 mod ways;
 
 pub use answers::split;
-pub use deliveries::{Delivery, best_of};
+pub use deliveries::{Delivery, best_of, no_legs};
+pub use legs::{push_legs, push_places};
 pub use pairs::{Pick, best_pair, gives_at};
-pub use rounding::round;
+pub use rounding::{equal_terms, round};
 pub use rows::{Row, rows_of};
-pub use shares::{Choice, Offer, Terms, best_share};
+pub use shares::{Choice, Offer, Terms, best_share, sixteenths};
 pub use sizes::{BestWay, best_way};
+pub use source::part_amount;
 pub use spreads::{one_spread_value, spread};
 pub use values::greatest_value;
-pub use ways::best_two_way;
+pub use ways::{best_of_ways, best_two_way};
 
 #[cfg(test)]
 mod tests;

@@ -7,14 +7,14 @@ ghost use Rattle.amm_model.specs.Spreads.{AtLeastSpread, AtLeastSpreads};
 ghost use Rattle.amm_graph.specs.Hops.{hops_of};
 ghost use Rattle.amm_split.specs.Shares.{AreRows, AreTerms, equal_terms as equal_terms_of, spread_on, terms_at as terms_at_of};
 
-use crate::deliveries::{Delivery, best_of};
+use crate::deliveries::{Delivery, best_of, no_legs};
 use crate::rows::{Row, rows_of};
 use crate::shares::Terms;
 use crate::source::source_amount;
 use crate::spreads::spread;
 use amm_dual::planned;
 use amm_graph::{Path, paths};
-use amm_model::{LegList, Memory, Prices, Problem, Route};
+use amm_model::{Memory, Prices, Problem, Route};
 use std::alloc::Global;
 
 /// A route that delivers at least each spread value, that at these prices among them. There is one
@@ -25,20 +25,13 @@ pub fn round(alloc: Global, problem: &Problem, prices: &Prices) -> Result<Route,
 {
     let all = paths(alloc, problem)?;
     let plan = planned(alloc, problem.as_open())?;
-    let kept = best_of(problem.as_open(), no_legs(alloc, problem), plan.legs);
+    let kept = best_of(
+        problem.as_open(),
+        no_legs(alloc, problem.as_open()),
+        plan.legs,
+    );
     let best = rounded(alloc, problem, &all, prices, kept)?;
     Ok(Route { legs: best.legs })
-}
-
-// No legs deliver nothing.
-fn no_legs(alloc: Global, problem: &Problem) -> Delivery
-    ensures { Delivers (open_view problem.now) result.legs result.amount }
-{
-    let _apart = source_amount(problem);
-    Delivery {
-        legs: LegList::from_vec(Vec::new(alloc)),
-        amount: 0,
-    }
 }
 
 /// The best of what is kept and of the four spreads.
@@ -88,8 +81,8 @@ fn with_spread(
     Ok(best_of(problem.as_open(), kept, legs))
 }
 
-// Shares of so many sixteenths, each where it gives most.
-fn equal_terms(d: u64, size: usize) -> Terms
+/// Shares of so many sixteenths, each where it gives most.
+pub fn equal_terms(d: u64, size: usize) -> Terms
     requires amount { d < 2 ^ 52 }
     requires size { (1 ≤ size) × (size ≤ 16) }
     ensures value { result ≡ equal_terms_of d size }

@@ -1,7 +1,15 @@
-use Rattle.amm_split.proofs.OneOrTwo.{found_some}
+use Rattle.amm_model.specs.Routing.{open_view}
+use Rattle.amm_split.specs.Deliveries.{source_part}
+use Rattle.amm_split.proofs.OneOrTwo.{found_none, found_some}
 use Rattle.amm_split.proofs.ways.best_two_way.Goals as goal
+
+pub returns-in_default : goal.returns-in_default
+returns-in_default c =
+    let problem = c.args.problem.now in
+    found_none (open_view problem) (source_part problem) c.in_ok-found.field-0 c.in_default.not-Some (rw (c.as_open.ensures, c.source_part.ensures.part) at c.in_ok-found.ensures)
 
 pub returns : goal.returns
 returns c =
-    let found = found_some c.args.problem.now c.in_ok-found.field-0 c.in-Some.found c.in-Some.is c.in_ok-found.ensures in
+    let problem = c.args.problem.now in
+    let found = found_some (open_view problem) (source_part problem) c.in_ok-found.field-0 c.in-Some.found c.in-Some.is (rw (c.as_open.ensures, c.source_part.ensures.part) at c.in_ok-found.ensures) in
     (c.in-Some.found.amount, found.delivers, found.value, found.ways)
