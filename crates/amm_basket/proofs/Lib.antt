@@ -1,0 +1,3 @@
+pub mod BestWays
+pub mod Frames
+pub mod InTurn

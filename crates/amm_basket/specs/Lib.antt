@@ -1,0 +1,2 @@
+pub mod BasketAnswers
+pub mod Sales
