@@ -13,10 +13,11 @@ ghost use Rattle.amm_model.specs.Paths.{AreAllPaths};
 ghost use Rattle.amm_graph.specs.Hops.{hops_of};
 
 use amm_model::{Memory, OpenProblem, Problem};
-pub use amounts::{along, gives};
+pub use amounts::{along, gives, hop_at};
 pub use market::{open_problem, problem, problem_of_book};
 pub use path::Path;
 use std::alloc::Global;
+pub use walk::side;
 use walk::{Ends, extend};
 
 /// All paths of the problem, in the order of the places of their pools.

@@ -73,9 +73,9 @@ fn follow(
     Ok(())
 }
 
-// The hop over the pool at a place from a token, and the place of the token that it leads to; None
-// where the pool is not admissible or does not have the token.
-fn side(problem: &OpenProblem, at: usize, i: usize) -> Option<(Hop, usize)>
+/// The hop over the pool at a place from a token, and the place of the token that it leads to; None
+/// where the pool is not admissible or does not have the token.
+pub fn side(problem: &OpenProblem, at: usize, i: usize) -> Option<(Hop, usize)>
     requires at { at < length problem.now.tokens }
     requires pool { i < length problem.now.pools }
     ensures sound { IsOpenProblem problem.now }

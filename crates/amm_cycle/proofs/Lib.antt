@@ -1,0 +1,4 @@
+pub mod Gifts
+pub mod Middles
+pub mod Steps
+pub mod Law

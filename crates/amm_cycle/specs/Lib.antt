@@ -1,0 +1,3 @@
+pub mod CycleTrades
+pub mod CycleAnswers
+pub mod Chains
