@@ -1,4 +1,4 @@
--- What an accepted settlement keeps.
+-- What a performed plan and an accepted settlement keep.
 use Rattle.std.proofs.Common.{◌≡◌, ℕ, nat_lt, not, List, [], ◌∷◌, Ok, subst}
 use Rattle.std.specs.Prelude.{if◌then◌else◌}
 use Rattle.amm_names.specs.Names.{Name}
@@ -13,10 +13,12 @@ use Rattle.amm_model.specs.Ledger.{Ledger, balance}
 use Rattle.amm_model.specs.Postings.{transfer}
 use Rattle.amm_model.specs.Operations.{swap}
 use Rattle.amm_model.specs.Legs.{leg_pool, token_in}
+use Rattle.amm_model.specs.Routing.{OpenView, open_view}
 use Rattle.amm_model.specs.Settlement.{pools_of_legs, any_locked, all_as_kept, perform_leg, perform_legs, settle}
 use Rattle.amm_model.proofs.Guards.{given, not_refused, same_answer}
 use Rattle.amm_model.proofs.Laters.{Kept, kept_same, kept_then, transfer_kept}
 use Rattle.amm_pair.proofs.Lending.{swap_kept}
+use Rattle.amm_settle.specs.Plans.{perform}
 
 leg_kept : (ledger : Ledger) (actor : Name) (pools : List ProblemPool) (leg : Leg) (made : Made (Unit {0})) → perform_leg ledger actor pools leg ≡ Ok made → Kept ledger made.ledger
 unfolding perform_leg
@@ -40,14 +42,20 @@ legs_kept (leg ∷ legs) ledger actor pools made is =
     kept_then ledger first.value.ledger made.ledger (leg_kept ledger actor pools leg first.value first.was)
     (legs_kept legs first.value.ledger actor pools made first.after)
 
--- Whatever the quote is, its settlement keeps what every step keeps.
+-- Whatever the plan is, it keeps what every step keeps.
+pub perform_kept : (ledger : Ledger) (actor : Name) (problem : OpenView) (legs : List Leg) (delivered : ℕ) (made : Made ℕ) → perform ledger actor problem legs delivered ≡ Ok made → Kept ledger made.ledger
+unfolding perform
+perform_kept ledger actor problem legs delivered made is =
+    let performed = given (perform_legs ledger actor problem.pools legs) _ made is in
+    subst (λ (m : Made ℕ). Kept ledger m.ledger) (same_answer (record { ledger = performed.value.ledger; answer = delivered }) made performed.after)
+    (legs_kept legs ledger actor problem.pools performed.value performed.was)
+
+-- So does the settlement of a quote, whatever it is.
 pub settle_kept : (ledger : Ledger) (actor : Name) (quote : Quote) (deadline : ℕ) (made : Made ℕ) → settle ledger actor quote deadline ≡ Ok made → Kept ledger made.ledger
-unfolding settle
+unfolding settle perform
 settle_kept ledger actor quote deadline made is =
     let timely = not_refused (nat_lt deadline ledger.time) code.Expired _ made is in
     let free = not_refused (any_locked ledger (pools_of_legs quote)) code.Locked _ made timely.1 in
     let kept = not_refused (not (all_as_kept ledger (pools_of_legs quote))) code.Stale _ made free.1 in
     let funded = not_refused (nat_lt (balance ledger (assets.Token quote.problem.s) (holders.User actor)) quote.problem.d) code.Funds _ made kept.1 in
-    let performed = given (perform_legs ledger actor quote.problem.pools quote.route.legs) _ made funded.1 in
-    subst (λ (m : Made ℕ). Kept ledger m.ledger) (same_answer (record { ledger = performed.value.ledger; answer = quote.delivered }) made performed.after)
-    (legs_kept quote.route.legs ledger actor quote.problem.pools performed.value performed.was)
+    perform_kept ledger actor (open_view quote.problem) quote.route.legs quote.delivered made funded.1

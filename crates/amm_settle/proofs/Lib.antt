@@ -3,5 +3,6 @@ pub mod ZeroSide
 pub mod OneSide
 pub mod OneLeg
 pub mod AllLegs
+pub mod LegsPay
 pub mod Settled
 pub mod Kept

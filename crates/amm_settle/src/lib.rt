@@ -4,12 +4,18 @@
 //! pool swaps the output to him. It is refused by EXPIRED, LOCKED, STALE or FUNDS alone, in this
 //! order: where the pools of its legs are as they were quoted, no pool refuses a leg, and he has
 //! exactly what the quote delivers.
+//!
+//! `perform` takes a user through the legs of a problem of any parts, which he has (`has_parts`).
+//! Its caller knows that no pool of the legs is lent and that each is as the problem says, so that
+//! it is refused by no code.
 #![tactic(auto)]
 
 mod as_quoted;
 mod legs;
+mod performing;
 mod settling;
 #[cfg(test)]
 mod tests;
 
+pub use performing::{has_parts, perform};
 pub use settling::settle;

@@ -6,6 +6,7 @@ ghost use Rattle.amm_model.specs.Sound.{IsSound, IsAtRest};
 ghost use Rattle.amm_state.specs.declared.mark.Mark.{Mark};
 
 mod market;
+mod plans;
 
 use crate::settle;
 use amm_model::{Asset, Fault, Holder, PoolName, Quote, Refusal};

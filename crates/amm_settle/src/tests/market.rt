@@ -104,8 +104,8 @@ fn mint_shares(alloc: Global, tx: &mut Tx, pool: &PoolName, to: &UserName) -> Re
     Ok(())
 }
 
-// A pool of so many units of two tokens, whose shares are alice's.
-fn open_pool(
+/// A pool of so many units of a token and of USD, whose shares are alice's.
+pub fn open_pool(
     alloc: Global,
     tx: &mut Tx,
     names: &Names,

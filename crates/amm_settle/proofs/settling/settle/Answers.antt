@@ -5,7 +5,8 @@ use Rattle.amm_model.specs.Ledger.{Ledger}
 use Rattle.amm_state.proofs.Meets.{on_ok, if_ok}
 use Rattle.amm_model.specs.Settlement.{IsPaidAsQuoted}
 use Rattle.amm_settle.specs.Places.{AreThere}
-use Rattle.amm_settle.proofs.Settled.{legs_there, not_both, refused_so, settle_codes, settle_due, settle_paid}
+use Rattle.amm_settle.proofs.LegsPay.{legs_there, not_both, refused_so}
+use Rattle.amm_settle.proofs.Settled.{settle_codes, settle_due, settle_paid}
 use Rattle.amm_settle.proofs.settling.settle.Goals as goal
 
 pub settle_over-requires-clause-there : goal.settle_over-requires-clause-there
