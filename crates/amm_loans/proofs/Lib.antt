@@ -1,0 +1,9 @@
+pub mod Fair
+pub mod Lent
+pub mod Sides
+pub mod OneLoan
+pub mod OneHop
+pub mod Chain
+pub mod Fitting
+pub mod Cycled
+pub mod Meeting
