@@ -1,7 +1,8 @@
 //! A large valid input from a number: `make` writes as many lines as it is asked for, the same for
-//! the same seed on every machine. An opening gives four users four tokens and makes the six pools
-//! between them. Then come swaps, liquidity, loans, transfers and questions that a generator of
-//! pseudo-random numbers draws, and once in a thousand lines a split and its certificate.
+//! the same seed on every machine; the words `work SEED COUNT` of the program count the replies to
+//! them. An opening gives four users four tokens and makes the six pools between them. Then come
+//! swaps, liquidity, loans, transfers and questions that a generator of pseudo-random numbers
+//! draws, and once in a thousand lines a split and its certificate.
 //!
 //! The bytes are those of a definition of the commands, each written as the row of a command is.
 //! So each line is read as the command that it was made from, as a law here says.

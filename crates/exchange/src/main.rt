@@ -1,17 +1,23 @@
 //! The program: with the word `run` it answers the lines of standard input on standard output,
 //! exactly as a Uniswap v2 ledger answers them. With the word `check` it takes standard input for a
 //! certificate, and writes one line: a yes with what the certificate's legs deliver and the bound
-//! that no route over its pools beats, or the first thing that is not so.
+//! that no route over its pools beats, or the first thing that is not so. With the words `work`,
+//! SEED and COUNT it makes so many lines of the seed, answers them in memory, and writes one line:
+//! how many it accepted and how many it refused.
 #![tactic(auto)]
 
 mod checker;
 mod finding;
 mod laws;
+mod runner;
+mod summary;
 #[cfg(test)]
 mod tests;
 mod top;
+mod verdicts;
 mod word_number;
 mod words;
+mod worker;
 
 use amm_engine::{Seed, Status};
 use amm_io::{StdSink, StdSource};

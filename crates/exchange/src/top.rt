@@ -5,20 +5,25 @@ ghost use Rattle.amm_io.specs.Traffic.{TakesWithin};
 ghost use Rattle.amm_model.specs.declared.limits.TheConstants.{CHECK_LIMIT, INPUT_LIMIT};
 ghost use Rattle.amm_model.specs.Ledger.{Ledger, opening_ledger};
 ghost use Rattle.amm_engine.specs.Service.{ServesAll, ServesEnded, ServesToLimit, BreaksOff, LacksMemory};
-ghost use Rattle.exchange.specs.declared.words.Request.TheVariants.{Check, Run};
+ghost use Rattle.exchange.specs.declared.words.Request.{Request as Asked};
+ghost use Rattle.exchange.specs.declared.words.Request.TheVariants.{Check, Run, Work};
 ghost use Rattle.exchange.specs.Words.{Asks};
 ghost use Rattle.exchange.specs.Findings.{Assures, CutsFinding, TellsFinding};
 ghost use Rattle.exchange.specs.Headline.{RepliesToAll};
+ghost use Rattle.exchange.specs.Work.{CutsCounts, TellsCounts};
 
 use crate::checker::check;
+use crate::runner::run;
 use crate::words::{Request, request_of};
-use amm_engine::{Engine, Seed, Status};
+use crate::worker::work;
+use amm_engine::{Seed, Status};
 use amm_io::{Sink, Source};
 use std::alloc::Global;
 
 /// Does all that the program does: with the one word `run` it answers the lines of the source on
-/// the sink, with the one word `check` it tells on the sink what is found of a certificate. No
-/// clause speaks of the seed: it decides only where names lie in the tables.
+/// the sink, with the one word `check` it tells on the sink what is found of a certificate, and
+/// with the words `work`, SEED and COUNT it tells how many of so many lines it accepts. No clause
+/// speaks of the seed of the tables: it decides only where names lie in them.
 pub fn exchange<S: Source, K: Sink>(
     alloc: Global,
     seed: Seed,
@@ -26,8 +31,7 @@ pub fn exchange<S: Source, K: Sink>(
     source: &mut S,
     sink: &mut K,
 ) -> Status
-    // The lines that `work` makes are not built so far.
-    ensures usage { (result ≡ Status.Usage) ↔ ((Asks words.now Run → ⊥) × (Asks words.now Check → ⊥)) }
+    ensures usage { (result ≡ Status.Usage) ↔ ((request : Asked) → Asks words.now request → ⊥) }
     ensures untouched { result ≡ Status.Usage → (source.new ≡ source.old) × (sink.new ≡ sink.old) }
     ensures read_fault { HasCause (S.faults source.old) (S.faults source.new) (result ≡ Status.ReadFault) }
     ensures write_fault { HasCause (K.faults sink.old) (K.faults sink.new) (result ≡ Status.WriteFault) }
@@ -64,33 +68,30 @@ pub fn exchange<S: Source, K: Sink>(
         ⊎ CutsFinding CHECK_LIMIT (S.left source.old) (S.left source.new) (K.written sink.old) (K.written sink.new) }
     ensures check_complete { Asks words.now Check → (Rose (S.faults source.old) (S.faults source.new) → ⊥) → (Rose (K.faults sink.old) (K.faults sink.new) → ⊥) →
         ((input : List ℕ) × (S.left source.old ≡ Some input) × (length input ≤ CHECK_LIMIT)) → (result ≡ Status.Done) ⊎ (result ≡ Status.No) ⊎ (result ≡ Status.Memory) }
+
+    // With the words `work`, SEED and COUNT. Nothing is read, and neither No, ReadFault nor
+    // InputLimit comes.
+    ensures unread { (number count : ℕ) → Asks words.now (Work number count) → source.new ≡ source.old }
+    ensures work_answers { (number count : ℕ) → Asks words.now (Work number count) →
+        (result ≡ Status.Done) ⊎ (result ≡ Status.WriteFault) ⊎ (result ≡ Status.Memory) }
+    ensures counts { (number count : ℕ) → Asks words.now (Work number count) → result ≡ Status.Done →
+        TellsCounts number count (K.written sink.old) (K.written sink.new) }
+    ensures counts_cut { (number count : ℕ) → Asks words.now (Work number count) → result ≡ Status.WriteFault →
+        CutsCounts number count (K.written sink.old) (K.written sink.new) }
+    ensures work_memory { (number count : ℕ) → Asks words.now (Work number count) → result ≡ Status.Memory → (sink.new ≡ sink.old)
+        ⊎ CutsCounts number count (K.written sink.old) (K.written sink.new) }
+    ensures work_complete { (number count : ℕ) → Asks words.now (Work number count) → (Rose (K.faults sink.old) (K.faults sink.new) → ⊥) →
+        (result ≡ Status.Done) ⊎ (result ≡ Status.Memory) }
 {
     match request_of(words) {
         Some(Request::Run) => run(alloc, seed, source, sink),
         Some(Request::Check) => check(alloc, source, sink),
-        Some(Request::Work { .. }) => Status::Usage,
+        Some(
+            Request::Work {
+                seed: number,
+                count,
+            },
+        ) => work(alloc, seed, number, count, sink),
         None => Status::Usage,
     }
-}
-
-/// Answers the lines of the source from the opening ledger on.
-fn run<S: Source, K: Sink>(alloc: Global, seed: Seed, source: &mut S, sink: &mut K) -> Status
-    ensures done { result ≡ Status.Done → (final : Ledger) ×
-        ServesAll INPUT_LIMIT (S.left source.old) (S.left source.new) (K.written sink.old) (K.written sink.new) opening_ledger final }
-    ensures ended { result ≡ Status.ReadFault → (final : Ledger) ×
-        ServesEnded INPUT_LIMIT (S.left source.old) (S.left source.new) (K.written sink.old) (K.written sink.new) opening_ledger final }
-    ensures passed { result ≡ Status.InputLimit → (final : Ledger) ×
-        ServesToLimit INPUT_LIMIT (S.left source.old) (S.left source.new) (K.written sink.old) (K.written sink.new) opening_ledger final }
-    ensures broken { result ≡ Status.WriteFault → (final : Ledger) ×
-        BreaksOff INPUT_LIMIT (S.left source.old) (S.left source.new) (K.written sink.old) (K.written sink.new) opening_ledger final }
-    ensures memory { result ≡ Status.Memory → (final : Ledger) ×
-        LacksMemory INPUT_LIMIT (S.left source.old) (S.left source.new) (K.written sink.old) (K.written sink.new) opening_ledger final }
-    ensures never { (result ≢ Status.No) × (result ≢ Status.Usage) }
-    ensures read_fault { HasCause (S.faults source.old) (S.faults source.new) (result ≡ Status.ReadFault) }
-    ensures write_fault { HasCause (K.faults sink.old) (K.faults sink.new) (result ≡ Status.WriteFault) }
-{
-    let Ok(mut engine) = Engine::with_seed(alloc, seed) else {
-        return Status::Memory;
-    };
-    engine.serve(alloc, source, sink)
 }

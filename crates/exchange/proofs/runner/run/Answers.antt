@@ -1,7 +1,7 @@
 use Rattle.amm_engine.specs.Service.{ServesAll, ServesEnded, ServesToLimit, BreaksOff, LacksMemory}
 use Rattle.amm_engine.proofs.Streaming.{LacksMemory-start}
 use Rattle.exchange.proofs.Statuses.{final_of}
-use Rattle.exchange.proofs.top.run.Goals as goal
+use Rattle.exchange.proofs.runner.run.Goals as goal
 
 pub returns-in_default-clause-memory : goal.returns-in_default-clause-memory
 returns-in_default-clause-memory g c = λ is. (_, LacksMemory-start _ _ _ _)
