@@ -2,8 +2,9 @@
 """Lines of a seed: `exchange work 1 100000`.
 
 Says what the lines cost that the program makes by itself, answers in memory and counts, and how
-memory goes with their number: all of the lines and all of the replies are held. Run it as
-`bench/work.py`, after `./exchange` has built the program.
+memory goes with their number: all of the lines and all of the replies are held. The memory of this
+script, some 10 MiB, is the least that is told. Run it as `bench/work.py`, after `./exchange` has
+built the program.
 """
 import os
 
