@@ -13,8 +13,8 @@ use Rattle.amm_model.specs.Swap.{amount_out_of}
 use Rattle.amm_model.specs.Routing.{ProblemView, amount_given, no_pool, fee_of, open_view}
 use Rattle.amm_names.specs.Names.{Name}
 use Rattle.amm_model.specs.Legs.{Inventory, IsAdmissible, IsLeg, AreLegs, Delivers, after_leg, after_legs, used_after}
-use Rattle.amm_model.specs.Paths.{hop_from, hop_to, hop_gives, IsHop, Leads, AreApart, hop_places, gives}
-use Rattle.amm_legs.specs.Portions.{Portion, ArePortions, leg_of_hop, legs_along, legs_of, given_by}
+use Rattle.amm_model.specs.Paths.{hop_from, hop_to, hop_gives, IsHop, Leads, AreApart, hop_places, gives, leg_of_hop, legs_along}
+use Rattle.amm_legs.specs.Portions.{Portion, ArePortions, legs_of, given_by}
 
 -- nothing in, nothing out
 nothing-out : (fee rin rout : ℕ) → amount_out_of fee 0 rin rout ≡ 0

@@ -4,16 +4,7 @@ use Rattle.amm_model.specs.declared.problem.ProblemPool.{ProblemPool}
 use Rattle.amm_model.specs.declared.route.Hop.{Hop}
 use Rattle.amm_model.specs.declared.route.Leg.{Leg}
 use Rattle.amm_names.specs.Names.{Name}
-use Rattle.amm_model.specs.Paths.{IsPath, AreApart, hop_places, hop_gives, gives}
-
--- The leg that a hop is, for an input.
-abbrev pub leg_of_hop : List ProblemPool → Hop → ℕ → Leg
-leg_of_hop pools hop x = record { pool = hop.pool; zero_in = hop.zero_in; input = x; output = hop_gives pools hop x }
-
--- The legs of a path: each hop takes what the one before gave.
-abbrev pub legs_along : List ProblemPool → List Hop → ℕ → List Leg
-legs_along pools [] x = []
-legs_along pools (hop ∷ hops) x = leg_of_hop pools hop x ∷ legs_along pools hops (hop_gives pools hop x)
+use Rattle.amm_model.specs.Paths.{IsPath, AreApart, hop_places, gives, legs_along}
 
 -- A path with the amount that goes over it.
 pub record Portion : Type 0 where

@@ -5,14 +5,14 @@ use Rattle.std.specs.Prelude.{ok_or}
 use Rattle.serde_json.specs.Data.{Data}
 use Rattle.amm_model.specs.declared.fault.Refusal.TheVariants.{BadJson}
 use Rattle.amm_model.specs.Json.{json_value}
-use Rattle.amm_model.specs.Forms.{as_text, as_list, as_user, as_token, as_pool, as_asset, as_holder, as_path, as_amount}
+use Rattle.amm_model.specs.Forms.{as_text, as_list, as_user, as_token, as_pool, as_asset, as_holder, as_parts, as_path, as_amount}
 use Rattle.amm_model.specs.CommandView as view
 use Rattle.amm_model.specs.CommandView.{CommandView}
-use Rattle.amm_model.specs.Reading.{deposit_row, withdraw_row, time_row, fee_to_row, setter_row, quote_out_row, quote_in_row, split_row, certificate_row, pool_row, balance_row, total_row, observe_row, average_row, consult_row, window_row, act_row, row_of, move_row, as_steps, steps_inside, command_of_list, command_of, command_of_line}
+use Rattle.amm_model.specs.Reading.{deposit_row, withdraw_row, time_row, fee_to_row, setter_row, quote_out_row, quote_in_row, split_row, certificate_row, pool_row, balance_row, total_row, observe_row, average_row, consult_row, window_row, basket_row, cycle_row, act_row, market_row, row_of, move_row, as_steps, steps_inside, command_of_list, command_of, command_of_line}
 use Rattle.amm_model.specs.declared.limits.TheConstants.{LOAN_LIMIT, STEP_LIMIT}
 use Rattle.amm_model.specs.Fits.{Fits}
 use Rattle.amm_model.proofs.Guards.{given, same_answer}
-use Rattle.amm_model.proofs.FormsFit.{passed, amount_small, path_fits}
+use Rattle.amm_model.proofs.FormsFit.{passed, amount_small, parts_fit, path_fits}
 use Rattle.amm_model.proofs.StepsFit.{Reads, chosen, move_row_fits, steps_fit}
 
 -- ---- the rows of commands
@@ -180,6 +180,35 @@ window_fits [] asked is = cc
 window_fits (a ∷ []) asked is = cc
 window_fits (a ∷ b ∷ c ∷ more) asked is = cc
 
+basket_fits : (rest : List Data) → Reads Fits (basket_row rest)
+unfolding Reads
+basket_fits (user ∷ list ∷ to ∷ least ∷ time ∷ []) asked is =
+    let user_read = given (as_user user) _ asked is in
+    let parts_read = given (as_parts list) _ asked user_read.after in
+    let to_read = given (as_token to) _ asked parts_read.after in
+    let least_read = given (as_amount least) _ asked to_read.after in
+    let time_read = given (as_amount time) _ asked least_read.after in
+    subst Fits (same_answer _ asked time_read.after)
+    ((parts_fit list parts_read.value parts_read.was, (amount_small least least_read.value least_read.was, amount_small time time_read.value time_read.was)))
+basket_fits [] asked is = cc
+basket_fits (a ∷ []) asked is = cc
+basket_fits (a ∷ b ∷ []) asked is = cc
+basket_fits (a ∷ b ∷ c ∷ []) asked is = cc
+basket_fits (a ∷ b ∷ c ∷ d ∷ []) asked is = cc
+basket_fits (a ∷ b ∷ c ∷ d ∷ e ∷ f ∷ more) asked is = cc
+
+cycle_fits : (rest : List Data) → Reads Fits (cycle_row rest)
+unfolding Reads
+cycle_fits (user ∷ token ∷ time ∷ []) asked is =
+    let user_read = given (as_user user) _ asked is in
+    let token_read = given (as_token token) _ asked user_read.after in
+    let time_read = given (as_amount time) _ asked token_read.after in
+    subst Fits (same_answer _ asked time_read.after) (amount_small time time_read.value time_read.was)
+cycle_fits [] asked is = cc
+cycle_fits (a ∷ []) asked is = cc
+cycle_fits (a ∷ b ∷ []) asked is = cc
+cycle_fits (a ∷ b ∷ c ∷ d ∷ more) asked is = cc
+
 act_fits : (kind : List ℕ) (rest : List Data) → Reads Fits (act_row kind rest)
 unfolding Reads
 act_fits kind (user ∷ rest) asked is =
@@ -189,15 +218,20 @@ act_fits kind (user ∷ rest) asked is =
     subst Fits both.1 (move_row_fits (as_steps LOAN_LIMIT actor.value) (λ d ms. steps_fit LOAN_LIMIT actor.value d ms) kind rest m.value m.was)
 act_fits kind [] asked is = cc
 
+market_fits : (kind : List ℕ) (rest : List Data) → Reads Fits (market_row kind rest)
+unfolding market_row
+market_fits kind rest =
+    chosen Fits _ _ _ (split_fits rest) (chosen Fits _ _ _ (certificate_fits rest) (chosen Fits _ _ _ (basket_fits rest)
+    (chosen Fits _ _ _ (cycle_fits rest) (chosen Fits _ _ _ (observe_fits rest) (chosen Fits _ _ _ (average_fits rest)
+    (chosen Fits _ _ _ (consult_fits rest) (chosen Fits _ _ _ (window_fits rest) (act_fits kind rest))))))))
+
 row_fits : (kind : List ℕ) (rest : List Data) → Reads Fits (row_of kind rest)
 unfolding row_of
 row_fits kind rest =
     chosen Fits _ _ _ (deposit_fits rest) (chosen Fits _ _ _ (withdraw_fits rest) (chosen Fits _ _ _ (time_fits rest)
     (chosen Fits _ _ _ (fee_to_fits rest) (chosen Fits _ _ _ (setter_fits rest) (chosen Fits _ _ _ (quote_out_fits rest)
-    (chosen Fits _ _ _ (quote_in_fits rest) (chosen Fits _ _ _ (split_fits rest) (chosen Fits _ _ _ (certificate_fits rest)
-    (chosen Fits _ _ _ (pool_fits rest) (chosen Fits _ _ _ (balance_fits rest) (chosen Fits _ _ _ (total_fits rest)
-    (chosen Fits _ _ _ (observe_fits rest) (chosen Fits _ _ _ (average_fits rest) (chosen Fits _ _ _ (consult_fits rest)
-    (chosen Fits _ _ _ (window_fits rest) (act_fits kind rest))))))))))))))))
+    (chosen Fits _ _ _ (quote_in_fits rest) (chosen Fits _ _ _ (pool_fits rest) (chosen Fits _ _ _ (balance_fits rest)
+    (chosen Fits _ _ _ (total_fits rest) (market_fits kind rest))))))))))
 
 list_fits : (ds : List Data) (asked : CommandView) → command_of_list ds ≡ Ok asked → Fits asked
 unfolding Reads

@@ -1,19 +1,22 @@
 -- The forms of values give names that are names, and numbers and lengths within their limits.
 use Rattle.std.proofs.Common.{◌≡◌, ◌≤◌, ◌∷◌, ℕ, suc, nat_le, Bool, true, false, ◌&&◌, List, [], length, map, Result, Ok, refl, ap, subst, arith}
-use Rattle.std.specs.Prelude.{IsTrue}
-use Rattle.std.specs.List.{All}
+use Rattle.std.specs.Prelude.{IsTrue, AllPairs}
+use Rattle.std.specs.List.{All, list_all}
 use Rattle.std.proofs.lemmas.List.Elements.{All-nil, All-cons}
+use Rattle.std.proofs.lemmas.List.Kept.{AllPairs-cons}
+use Rattle.amm_model.specs.Json.{each}
 use Rattle.std.proofs.lemmas.Bool.Decides.{nat_tests}
 use Rattle.serde_json.specs.Data.{Data, null, boolean, number, string, array, object}
 use Rattle.amm_names.specs.Names.{is_token_name}
-use Rattle.amm_names.specs.Pools.{is_pool_name, is_fee}
+use Rattle.amm_names.specs.Pools.{is_before, is_pool_name, is_fee}
 use Rattle.amm_model.specs.declared.fault.Refusal.{Refusal}
+use Rattle.amm_model.specs.declared.problem.Part.{Part}
 use Rattle.amm_model.specs.declared.route_path.RoutePath.{RoutePath}
 use Rattle.amm_model.specs.Outcome.{◌>>=◌}
 use Rattle.amm_model.specs.Swap.{IsFee}
-use Rattle.amm_model.specs.Forms.{as_text, as_list, as_token, as_pool, as_path, as_amount, as_fee, as_whole, fee_behind, value_if, Hop, hops, path_along}
-use Rattle.amm_model.specs.declared.limits.TheConstants.{AMOUNT_LIMIT, PATH_LEAST, PATH_LIMIT}
-use Rattle.amm_model.specs.Fits.{IsAmount, IsPath}
+use Rattle.amm_model.specs.Forms.{as_text, as_list, as_token, as_pool, as_path, as_amount, as_fee, as_whole, fee_behind, value_if, Hop, hops, path_along, part_of_list, as_part, as_parts, are_rising}
+use Rattle.amm_model.specs.declared.limits.TheConstants.{AMOUNT_LIMIT, PART_LIMIT, PATH_LEAST, PATH_LIMIT}
+use Rattle.amm_model.specs.Fits.{IsAmount, IsPath, FitParts}
 use Rattle.amm_model.proofs.Guards.{given, same_answer}
 
 -- what was fitting passed the test
@@ -124,3 +127,61 @@ path_fits d path is =
     let size = within (length along.value.tokens) sides.0 sides.1 in
     let fit = along_fits ds.value along.value along.was in
     subst IsPath both.1 (record { fees = fit.fees; between = fit.between; least = size.0; most = size.1 })
+
+-- ---- parts
+
+part_small : (d : Data) (part : Part) → as_part d ≡ Ok part → IsAmount part.amount
+unfolding as_part
+part_small d part is =
+    let ds = given (as_list d) _ part is in
+    small_of ds.value part ds.after
+  where
+    small_of : (ds : List Data) (part : Part) → part_of_list ds ≡ Ok part → IsAmount part.amount
+    small_of (token ∷ n ∷ []) part is =
+        let token_read = given (as_token token) _ part is in
+        let n_read = given (as_amount n) _ part token_read.after in
+        subst (λ (p : Part). IsAmount p.amount) (same_answer _ part n_read.after) (amount_small n n_read.value n_read.was)
+    small_of [] part is = cc
+    small_of (a ∷ []) part is = cc
+    small_of (a ∷ b ∷ c ∷ more) part is = cc
+
+all_small : (ds : List Data) (parts : List Part) → each as_part ds ≡ Ok parts → All (λ (part : Part). IsAmount part.amount) parts
+unfolding each
+all_small [] parts is = subst (All (λ (part : Part). IsAmount part.amount)) (same_answer [] parts is) (All-nil (λ (part : Part). IsAmount part.amount))
+all_small (d ∷ ds) parts is =
+    let first = given (as_part d) _ parts is in
+    let rest = given (each as_part ds) _ parts first.after in
+    subst (All (λ (part : Part). IsAmount part.amount)) (same_answer _ parts rest.after)
+    (All-cons (λ (part : Part). IsAmount part.amount) first.value rest.value (part_small d first.value first.was) (all_small ds rest.value rest.was))
+
+rising_apart : (parts : List Part) → IsTrue (are_rising parts) → AllPairs (λ (a b : Part). IsTrue (is_before a.token b.token)) parts
+rising_apart [] is = λ i j d lt within. absurd (omega arith)
+rising_apart (part ∷ parts) is =
+    let both = both_true (list_all (λ (later : Part). is_before part.token later.token) parts) (are_rising parts) is in
+    AllPairs-cons (λ (a b : Part). IsTrue (is_before a.token b.token)) part parts (all_of (λ (later : Part). is_before part.token later.token) parts both.0) (rising_apart parts both.1)
+  where
+    all_of : (test : Part → Bool) (xs : List Part) → IsTrue (list_all test xs) → All (λ (x : Part). IsTrue (test x)) xs
+    all_of test [] is = All-nil (λ (x : Part). IsTrue (test x))
+    all_of test (x ∷ xs) is =
+        let both = both_true (test x) (list_all test xs) is in
+        All-cons (λ (x : Part). IsTrue (test x)) x xs both.0 (all_of test xs both.1)
+
+one_to_eight : (n : ℕ) → IsTrue (nat_le 1 n) → IsTrue (nat_le n PART_LIMIT) → (1 ≤ n) × (n ≤ PART_LIMIT)
+one_to_eight n first second = (grind (arith, nat_tests), grind (arith, nat_tests))
+
+pub parts_fit : (d : Data) (parts : List Part) → as_parts d ≡ Ok parts → FitParts parts
+unfolding as_parts
+parts_fit d parts is =
+    let ds = given (as_list d) _ parts is in
+    let read = given (each as_part ds.value) _ parts ds.after in
+    let n = length read.value in
+    let all = passed (nat_le 1 n && nat_le n PART_LIMIT && are_rising read.value) read.value parts read.after in
+    let front = both_true (nat_le 1 n && nat_le n PART_LIMIT) (are_rising read.value) all.0 in
+    let sides = both_true (nat_le 1 n) (nat_le n PART_LIMIT) front.0 in
+    let size = one_to_eight n sides.0 sides.1 in
+    subst FitParts all.1 (record {
+      least = size.0;
+      most = size.1;
+      rising = rising_apart read.value front.1;
+      amounts = all_small ds.value read.value read.was;
+    })

@@ -1,6 +1,10 @@
--- What a plan for a basket of several parts has to deliver at least.
+-- What a quote for a basket of several parts has to deliver at least, and which quotes answer one.
 use Rattle.std.specs.Prelude.{ℕ, ◌≡◌, ◌+◌, ◌<◌, ◌≤◌, ◌⊎◌, ◌++◌, List, [], ◌∷◌, Contains}
-use Rattle.amm_model.specs.Routing.{OpenView}
+use Rattle.amm_model.specs.Routing.{OpenView, IsOpenProblem}
+use Rattle.amm_model.specs.Bound.{bound_of}
+use Rattle.amm_model.specs.Legs.{Delivers}
+use Rattle.amm_model.specs.Settled.{IsSettled}
+use Rattle.amm_model.specs.declared.route.OpenQuote.{OpenQuote}
 use Rattle.amm_names.specs.Names.{Name}
 use Rattle.amm_model.specs.declared.problem.Part.{Part}
 use Rattle.amm_model.specs.declared.problem.ProblemPool.{ProblemPool}
@@ -35,7 +39,23 @@ pub record IsValueOfPart (problem : OpenView) (value : ℕ) : Type 0 where
   pub is_part : Contains problem.parts part
   pub given : IsOneOrTwoWayValue problem.pools part.token problem.t part.amount value
 
--- At least the sequential value and every one-way and two-way value of a part.
-pub record AtLeastPartValues (problem : OpenView) (amount : ℕ) : Type 0 where
-  pub sequential : (value : ℕ) → IsSequentialValue problem.pools problem.t [] problem.parts value → value ≤ amount
-  pub parts : (value : ℕ) → IsValueOfPart problem value → value ≤ amount
+-- The sequential value, or a one-way or two-way value of a part.
+abbrev pub IsBasketValue : OpenView → ℕ → Type 0
+IsBasketValue problem value = IsSequentialValue problem.pools problem.t [] problem.parts value ⊎ IsValueOfPart problem value
+
+-- At least each of them.
+abbrev pub AtLeastPartValues : OpenView → (amount : ℕ) → Type 0
+AtLeastPartValues problem amount = (value : ℕ) → IsBasketValue problem value → value ≤ amount
+
+-- No part can be brought to the target: no path gives anything on any number of sixteenths of it.
+abbrev pub HasNoBasket : OpenView → Type 0
+HasNoBasket problem = (value : ℕ) → IsValueOfPart problem value → ⊥
+
+-- A quote that answers its basket: its prices are settled, its bound is that of its prices, its
+-- legs deliver its amount, and this is at least every value. Route and prices are free within this.
+pub record IsBasketAnswer (quote : OpenQuote) : Type 0 where
+  pub problem : IsOpenProblem quote.problem
+  pub settled : IsSettled quote.problem quote.prices
+  pub bound : quote.bound ≡ bound_of quote.problem quote.prices
+  pub delivers : Delivers quote.problem quote.route.legs quote.delivered
+  pub values : AtLeastPartValues quote.problem quote.delivered

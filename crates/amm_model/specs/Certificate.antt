@@ -20,17 +20,25 @@ pool_value pool = list (string pool.name ∷ whole pool.r0 ∷ whole pool.r1 ∷
 abbrev pub price_value : Name × ℕ → Data
 price_value p = list (string p.0 ∷ whole p.1 ∷ [])
 
+-- tokens with their prices
+abbrev pub priced_tokens_value : List Name → List ℕ → Data
+priced_tokens_value tokens prices = list (map price_value (zip tokens prices))
+
 -- the tokens of the problem with their prices
 abbrev pub prices_value : Quote → Data
-prices_value quote = list (map price_value (zip quote.problem.tokens quote.prices))
+prices_value quote = priced_tokens_value quote.problem.tokens quote.prices
 
 -- a pool, the token that goes in, the input and the output
 abbrev pub leg_value : List ProblemPool → Leg → Data
 leg_value pools leg = list (string (leg_pool pools leg).name ∷ string (token_in pools leg) ∷ whole leg.input ∷ whole leg.output ∷ [])
 
 -- the legs in the order in which they are taken
+abbrev pub route_value : List ProblemPool → List Leg → Data
+route_value pools legs = list (map (leg_value pools) legs)
+
+-- the legs of a quote
 abbrev pub legs_value : Quote → Data
-legs_value quote = list (map (leg_value quote.problem.pools) quote.route.legs)
+legs_value quote = route_value quote.problem.pools quote.route.legs
 
 -- a certificate, in a version of the format
 abbrev pub versioned_value : ℕ → Quote → Data
@@ -46,13 +54,17 @@ certificate_value quote = versioned_value 2 quote
 unfoldable pub certificate_text : Quote → List ℕ
 certificate_text quote = compact_text (certificate_value quote)
 
--- A quote that can be written: a price for each token, at most 256 legs, each over a pool of the
--- problem with amounts of at most 2^52-1.
-pub record IsWritable (quote : Quote) : Type 0 where
-  pub priced : length quote.prices ≡ length quote.problem.tokens
-  pub few : length quote.route.legs ≤ PAIR_LIMIT
-  pub there : All (λ (leg : Leg). leg.pool < length quote.problem.pools) quote.route.legs
-  pub amounts : All (λ (leg : Leg). (leg.input ≤ AMOUNT_LIMIT) × (leg.output ≤ AMOUNT_LIMIT)) quote.route.legs
+-- Prices and legs that can be written: a price for each token, at most 256 legs, each over one of
+-- the pools with amounts of at most 2^52-1.
+pub record AreWritable (tokens : List Name) (pools : List ProblemPool) (prices : List ℕ) (legs : List Leg) : Type 0 where
+  pub priced : length prices ≡ length tokens
+  pub few : length legs ≤ PAIR_LIMIT
+  pub there : All (λ (leg : Leg). leg.pool < length pools) legs
+  pub amounts : All (λ (leg : Leg). (leg.input ≤ AMOUNT_LIMIT) × (leg.output ≤ AMOUNT_LIMIT)) legs
+
+-- A quote that can be written.
+abbrev pub IsWritable : Quote → Type 0
+IsWritable quote = AreWritable quote.problem.tokens quote.problem.pools quote.prices quote.route.legs
 
 -- A version that pools may be written in: version 1 has only pools of the fee of 3, which are
 -- spelled without a fee; version 2 has any.

@@ -4,6 +4,7 @@ use Rattle.std.specs.Prelude.{ℕ, List, [], ◌∷◌, map}
 use Rattle.amm_names.specs.Names.{Name}
 use Rattle.amm_names.specs.declared.holder.Asset.{Asset}
 use Rattle.amm_names.specs.declared.holder.Holder.{Holder}
+use Rattle.amm_model.specs.declared.problem.Part.{Part}
 use Rattle.amm_model.specs.declared.route_path.RoutePath.{RoutePath}
 use Rattle.amm_model.specs.declared.command.AddWant.{AddWant}
 use Rattle.amm_model.specs.declared.command.RemoveWant.{RemoveWant}
@@ -53,6 +54,8 @@ pub data CommandView : Type 0 where
   average : ℕ → ℕ → CommandView
   consult : ℕ → ℕ → Name → ℕ → CommandView
   window : Name → ℕ → CommandView
+  basket : Name → List Part → Name → ℕ → ℕ → CommandView
+  cycle : Name → Name → ℕ → CommandView
   act : Name → Move → CommandView
 
 abbrev pub moves_of : List Move → Moves
@@ -100,4 +103,6 @@ view_of (commands.Observe actor name) = observe actor name
 view_of (commands.Average first second) = average first second
 view_of (commands.Consult first second token n) = consult first second token n
 view_of (commands.Window name seconds) = window name seconds
+view_of (commands.Basket actor parts t min deadline) = basket actor parts t min deadline
+view_of (commands.Cycle actor t deadline) = cycle actor t deadline
 view_of (commands.Act actor step) = act actor (move_of_step step)

@@ -7,7 +7,11 @@ use Rattle.amm_model.specs.declared.problem.ProblemPool.{ProblemPool}
 use Rattle.amm_model.specs.declared.route.Hop.{Hop}
 use Rattle.amm_model.specs.declared.route.Leg.{Leg}
 use Rattle.amm_model.specs.Legs.{leg_pool, token_in}
-use Rattle.amm_model.specs.Paths.{IsHop, Leads, hop_places, hop_to, gives}
+use Rattle.amm_model.specs.Paths.{IsHop, Leads, hop_places, hop_to, gives, legs_along}
+use Rattle.amm_model.specs.Routing.{OpenView, IsOpenProblem}
+use Rattle.amm_model.specs.Bound.{bound_of}
+use Rattle.amm_model.specs.Settled.{IsSettled}
+use Rattle.amm_model.specs.declared.route.OpenQuote.{OpenQuote}
 use Rattle.amm_model.specs.CommandView as view
 use Rattle.amm_model.specs.CommandView.{Move, Moves}
 
@@ -35,6 +39,28 @@ pub record IsCycleValue (pools : List ProblemPool) (t : Name) (value : ℕ) : Ty
   pub size : e ≤ 51
   pub stands : StandsOn pools hops (2 ^ e)
   pub given : value ≡ profit pools hops (2 ^ e)
+
+-- The legs of a cycle for some input on which it stands, with the profit on it.
+pub record IsCycleTrade (pools : List ProblemPool) (t : Name) (legs : List Leg) (gain : ℕ) : Type 0 where
+  pub hops : List Hop
+  pub x : ℕ
+  pub is_cycle : IsCycle pools t hops
+  pub stands : StandsOn pools hops x
+  pub legs_of : legs ≡ legs_along pools hops x
+  pub gained : gain ≡ profit pools hops x
+
+-- No cycle brings anything on any power of two.
+abbrev pub HasNoCycle : OpenView → Type 0
+HasNoCycle problem = (value : ℕ) → IsCycleValue problem.pools problem.t value → ⊥
+
+-- A quote of a cycle: its prices are settled, its bound is that of its prices, its legs are those
+-- of a cycle for some input, with its profit, and this is at least every cycle value.
+pub record IsCycleAnswer (quote : OpenQuote) : Type 0 where
+  pub problem : IsOpenProblem quote.problem
+  pub settled : IsSettled quote.problem quote.prices
+  pub bound : quote.bound ≡ bound_of quote.problem quote.prices
+  pub trade : IsCycleTrade quote.problem.pools quote.problem.t quote.route.legs quote.delivered
+  pub values : (value : ℕ) → IsCycleValue quote.problem.pools quote.problem.t value → value ≤ quote.delivered
 
 -- What a leg owes: its input goes from the borrower to the leg's pool.
 abbrev pub payment : List ProblemPool → Leg → Moves

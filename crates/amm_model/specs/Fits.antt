@@ -1,13 +1,14 @@
 -- Commands and steps whose numbers, fees and lengths are within their limits, at every level; and
 -- those of them that were read, whose names are names too.
-use Rattle.std.specs.Prelude.{◌≡◌, ℕ, ⊤, suc, ◌≤◌, length, IsTrue}
+use Rattle.std.specs.Prelude.{◌≡◌, ℕ, ⊤, suc, ◌≤◌, List, length, IsTrue, AllPairs}
 use Rattle.std.specs.List.{All}
 use Rattle.amm_names.specs.Names.{is_token_name}
-use Rattle.amm_names.specs.Pools.{is_pool_name}
+use Rattle.amm_names.specs.Pools.{is_before, is_pool_name}
+use Rattle.amm_model.specs.declared.problem.Part.{Part}
 use Rattle.amm_model.specs.declared.route_path.RoutePath.{RoutePath}
 use Rattle.amm_model.specs.declared.command.AddWant.{AddWant}
 use Rattle.amm_model.specs.declared.command.RemoveWant.{RemoveWant}
-use Rattle.amm_model.specs.declared.limits.TheConstants.{AMOUNT_LIMIT, PATH_LEAST, PATH_LIMIT}
+use Rattle.amm_model.specs.declared.limits.TheConstants.{AMOUNT_LIMIT, PART_LIMIT, PATH_LEAST, PATH_LIMIT}
 use Rattle.amm_model.specs.Swap.{IsFee}
 use Rattle.amm_model.specs.CommandView as view
 use Rattle.amm_model.specs.CommandView.{CommandView, Move, Moves}
@@ -35,6 +36,13 @@ pub record FitsRemove (want : RemoveWant) : Type 0 where
   pub shares : IsAmount want.shares
   pub a_min : IsAmount want.a_min
   pub b_min : IsAmount want.b_min
+
+-- 1 to 8 parts, in the strict order of their tokens
+pub record FitParts (parts : List Part) : Type 0 where
+  pub least : 1 ≤ length parts
+  pub most : length parts ≤ PART_LIMIT
+  pub rising : AllPairs (λ (a b : Part). IsTrue (is_before a.token b.token)) parts
+  pub amounts : All (λ (part : Part). IsAmount part.amount) parts
 
 abbrev mutual
   -- a step fits
@@ -98,4 +106,6 @@ Fits (view.observe actor pool) = ⊤
 Fits (view.average first second) = IsAmount first × IsAmount second
 Fits (view.consult first second token n) = IsAmount first × (IsAmount second × IsAmount n)
 Fits (view.window pool seconds) = IsAmount seconds
+Fits (view.basket actor parts t min deadline) = FitParts parts × (IsAmount min × IsAmount deadline)
+Fits (view.cycle actor t deadline) = IsAmount deadline
 Fits (view.act actor m) = HasNames m × FitsMove m

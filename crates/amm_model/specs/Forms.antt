@@ -1,18 +1,20 @@
 -- The forms of values in commands: names, amounts, fees and paths.
-use Rattle.std.specs.Prelude.{ℕ, List, [], ◌∷◌, map, length, Bool, ◌&&◌, nat_le, if◌then◌else◌, Result, Ok, Err, ok_or}
+use Rattle.std.specs.Prelude.{ℕ, List, [], ◌∷◌, map, length, Bool, true, ◌&&◌, nat_le, if◌then◌else◌, Result, Ok, Err, ok_or}
 use Rattle.serde_json.specs.Data.{Data, number, array, unsigned}
 use Rattle.serde_json.specs.Find.{as_str}
 use Rattle.amm_names.specs.declared.holder.Asset.{Asset}
 use Rattle.amm_names.specs.declared.holder.Holder.{Holder}
 use Rattle.amm_names.specs.Names.{Name, is_user_name, is_token_name}
-use Rattle.amm_names.specs.Pools.{is_pool_name, is_fee}
+use Rattle.std.specs.List.{list_all}
+use Rattle.amm_names.specs.Pools.{is_before, is_pool_name, is_fee}
 use Rattle.amm_names.specs.Holders.{asset_of, holder_of}
 use Rattle.amm_model.specs.declared.fault.Refusal.{Refusal}
 use Rattle.amm_model.specs.declared.fault.Refusal.TheVariants.{BadCommand}
+use Rattle.amm_model.specs.declared.problem.Part.{Part}
 use Rattle.amm_model.specs.declared.route_path.RoutePath.{RoutePath}
 use Rattle.amm_model.specs.Outcome.{◌>>=◌}
-use Rattle.amm_model.specs.Json.{elements}
-use Rattle.amm_model.specs.declared.limits.TheConstants.{AMOUNT_LIMIT, PATH_LEAST, PATH_LIMIT}
+use Rattle.amm_model.specs.Json.{elements, each}
+use Rattle.amm_model.specs.declared.limits.TheConstants.{AMOUNT_LIMIT, PART_LIMIT, PATH_LEAST, PATH_LIMIT}
 
 -- the value, where it passes the test
 abbrev pub value_if : {A : Type 0} → Bool → A → Result A Refusal
@@ -113,3 +115,28 @@ as_path d = do
   ds ← as_list d
   path ← path_along ds
   value_if (nat_le PATH_LEAST (length path.tokens) && nat_le (length path.tokens) PATH_LIMIT) path
+
+-- a token and an amount of it
+abbrev pub part_of_list : List Data → Result Part Refusal
+part_of_list (token ∷ n ∷ []) = do
+  name ← as_token token
+  amount ← as_amount n
+  Ok (record { token = name; amount = amount })
+part_of_list _ = Err BadCommand
+
+unfoldable pub as_part : Data → Result Part Refusal
+as_part d = do
+  ds ← as_list d
+  part_of_list ds
+
+-- each part's token comes before those of all later parts
+abbrev pub are_rising : List Part → Bool
+are_rising [] = true
+are_rising (part ∷ parts) = list_all (λ (later : Part). is_before part.token later.token) parts && are_rising parts
+
+-- an array of 1 to 8 parts, in the strict order of their tokens
+unfoldable pub as_parts : Data → Result (List Part) Refusal
+as_parts d = do
+  ds ← as_list d
+  parts ← each as_part ds
+  value_if (nat_le 1 (length parts) && nat_le (length parts) PART_LIMIT && are_rising parts) parts

@@ -39,7 +39,9 @@ pub mod SplitAnswers
 pub mod Splits
 pub mod Settlement
 pub mod Baskets
+pub mod Sales
 pub mod Cycles
+pub mod CycleRuns
 pub mod Certificate
 -- Words of the proofs: what is known of a command that was read, of a later ledger, of a ledger's
 -- tables, and of ledgers as values. No promise to users speaks of them.

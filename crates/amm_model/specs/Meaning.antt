@@ -20,6 +20,8 @@ use Rattle.amm_model.specs.Factory.{create, set_fee_to, set_setter}
 use Rattle.amm_model.specs.Router.{add, remove, exact_in, exact_out, amounts_out, amounts_in}
 use Rattle.amm_model.specs.Settlement.{settle}
 use Rattle.amm_model.specs.Splits.{SplitsTo}
+use Rattle.amm_model.specs.Sales.{SellsTo}
+use Rattle.amm_model.specs.CycleRuns.{CyclesTo}
 use Rattle.amm_model.specs.Oracle.{observe, average, consult, window}
 use Rattle.amm_model.specs.CommandView as view
 use Rattle.amm_model.specs.CommandView.{CommandView, Move, Moves}
@@ -120,8 +122,8 @@ observe_answer outcome = do
   kept ← ok_or (observation_at made.ledger.observations made.answer) code.NoObservation
   ledger_with made.ledger (answers.Observe made.answer kept)
 
--- What a command may come to: a split to any quote that answers its problem, each other command to
--- one outcome.
+-- What a command may come to: a split, a basket and a cycle to any quote that answers its problem,
+-- each other command to one outcome.
 unfoldable pub MayComeTo : Ledger → CommandView → Outcome Answer → Type 0
 MayComeTo ledger (view.deposit user token n) outcome = deposit ledger user token n ≡ outcome
 MayComeTo ledger (view.withdraw user token n) outcome = withdraw ledger user token n ≡ outcome
@@ -139,4 +141,6 @@ MayComeTo ledger (view.observe actor pool) outcome = observe_answer (observe led
 MayComeTo ledger (view.average first second) outcome = query ledger answers.Average (average ledger first second) ≡ outcome
 MayComeTo ledger (view.consult first second token n) outcome = query ledger answers.Consult (consult ledger first second token n) ≡ outcome
 MayComeTo ledger (view.window pool seconds) outcome = query ledger answers.Window (window ledger pool seconds) ≡ outcome
+MayComeTo ledger (view.basket actor parts t min deadline) outcome = SellsTo ledger actor parts t min deadline outcome
+MayComeTo ledger (view.cycle actor t deadline) outcome = CyclesTo meaning ledger actor t deadline outcome
 MayComeTo ledger (view.act actor step) outcome = meaning ledger actor step ≡ outcome

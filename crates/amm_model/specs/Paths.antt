@@ -3,6 +3,7 @@ use Rattle.std.specs.Prelude.{ℕ, ◌≡◌, ◌≢◌, ◌+◌, ◌<◌, ◌�
 use Rattle.amm_model.specs.Swap.{amount_out_of}
 use Rattle.amm_model.specs.declared.problem.ProblemPool.{ProblemPool}
 use Rattle.amm_model.specs.declared.route.Hop.{Hop}
+use Rattle.amm_model.specs.declared.route.Leg.{Leg}
 use Rattle.amm_model.specs.Routing.{no_pool, fee_of, token0_of, token1_of}
 use Rattle.amm_names.specs.Names.{Name}
 use Rattle.amm_model.specs.Legs.{IsAdmissible}
@@ -65,6 +66,14 @@ hop_gives pools hop x =
 abbrev pub gives : List ProblemPool → List Hop → ℕ → ℕ
 gives pools [] x = x
 gives pools (hop ∷ hops) x = gives pools hops (hop_gives pools hop x)
+
+-- What a hop is as a leg, for an input, and what a path is for its first.
+abbrev pub leg_of_hop : List ProblemPool → Hop → ℕ → Leg
+leg_of_hop pools hop x = record { pool = hop.pool; zero_in = hop.zero_in; input = x; output = hop_gives pools hop x }
+
+abbrev pub legs_along : List ProblemPool → List Hop → ℕ → List Leg
+legs_along pools [] x = []
+legs_along pools (hop ∷ hops) x = leg_of_hop pools hop x ∷ legs_along pools hops (hop_gives pools hop x)
 
 -- All paths, each once, in the order of their places.
 pub record AreAllPaths (pools : List ProblemPool) (from to : Name) (paths : List (List Hop)) : Type 0 where

@@ -6,7 +6,7 @@ use Rattle.amm_model.specs.declared.fault.Refusal.{Refusal}
 use Rattle.amm_model.specs.declared.fault.Refusal.TheVariants.{BadJson, BadCommand}
 use Rattle.amm_model.specs.Outcome.{◌>>=◌}
 use Rattle.amm_model.specs.Json.{json_value, each}
-use Rattle.amm_model.specs.Forms.{value_if, as_text, as_list, as_user, as_token, as_pool, as_asset, as_holder, as_amount, as_path, fee_behind}
+use Rattle.amm_model.specs.Forms.{value_if, as_text, as_list, as_user, as_token, as_pool, as_asset, as_holder, as_amount, as_parts, as_path, fee_behind}
 use Rattle.amm_model.specs.CommandView as command
 use Rattle.amm_model.specs.CommandView.{CommandView, Move, Moves, no_moves, move, moves_of}
 use Rattle.amm_model.specs.declared.limits.TheConstants.{LOAN_LIMIT, STEP_LIMIT}
@@ -125,6 +125,24 @@ window_row (pool ∷ n ∷ []) = do
   seconds ← as_amount n
   Ok (command.window name seconds)
 window_row _ = Err BadCommand
+
+abbrev pub basket_row : List Data → Result CommandView Refusal
+basket_row (user ∷ list ∷ to ∷ least ∷ time ∷ []) = do
+  actor ← as_user user
+  parts ← as_parts list
+  t ← as_token to
+  min ← as_amount least
+  deadline ← as_amount time
+  Ok (command.basket actor parts t min deadline)
+basket_row _ = Err BadCommand
+
+abbrev pub cycle_row : List Data → Result CommandView Refusal
+cycle_row (user ∷ token ∷ time ∷ []) = do
+  actor ← as_user user
+  t ← as_token token
+  deadline ← as_amount time
+  Ok (command.cycle actor t deadline)
+cycle_row _ = Err BadCommand
 
 -- ---- what a step can be too: the elements behind the kind and the actor
 
@@ -309,6 +327,19 @@ act_row kind (user ∷ rest) = do
   value_if (nat_le (steps_inside m) STEP_LIMIT) (command.act actor m)
 act_row kind [] = Err BadCommand
 
+-- the row of a kind of routes or of the price oracle, or of one that a step can be too
+unfoldable pub market_row : List ℕ → List Data → Result CommandView Refusal
+market_row kind rest =
+    if bytes_eq kind (codes "split") then split_row rest
+    else (if bytes_eq kind (codes "certificate") then certificate_row rest
+    else (if bytes_eq kind (codes "basket") then basket_row rest
+    else (if bytes_eq kind (codes "cycle") then cycle_row rest
+    else (if bytes_eq kind (codes "observe") then observe_row rest
+    else (if bytes_eq kind (codes "average") then average_row rest
+    else (if bytes_eq kind (codes "consult") then consult_row rest
+    else (if bytes_eq kind (codes "window") then window_row rest
+    else act_row kind rest)))))))
+
 -- the row of a kind
 unfoldable pub row_of : List ℕ → List Data → Result CommandView Refusal
 row_of kind rest =
@@ -319,16 +350,10 @@ row_of kind rest =
     else (if bytes_eq kind (codes "setter") then setter_row rest
     else (if bytes_eq kind (codes "quoteout") then quote_out_row rest
     else (if bytes_eq kind (codes "quotein") then quote_in_row rest
-    else (if bytes_eq kind (codes "split") then split_row rest
-    else (if bytes_eq kind (codes "certificate") then certificate_row rest
     else (if bytes_eq kind (codes "pool") then pool_row rest
     else (if bytes_eq kind (codes "balance") then balance_row rest
     else (if bytes_eq kind (codes "total") then total_row rest
-    else (if bytes_eq kind (codes "observe") then observe_row rest
-    else (if bytes_eq kind (codes "average") then average_row rest
-    else (if bytes_eq kind (codes "consult") then consult_row rest
-    else (if bytes_eq kind (codes "window") then window_row rest
-    else act_row kind rest)))))))))))))))
+    else market_row kind rest)))))))))
 
 -- a kind, and what its row wants
 abbrev pub command_of_list : List Data → Result CommandView Refusal

@@ -5,9 +5,15 @@ use Rattle.serde_json.specs.Written.{compact_text}
 use Rattle.amm_model.specs.declared.reply.Answer.{Answer}
 use Rattle.amm_model.specs.declared.reply.Answer.TheVariants as answers
 use Rattle.amm_model.specs.declared.reply.Reply.{Reply}
+use Rattle.amm_model.specs.declared.route.OpenQuote.{OpenQuote}
 use Rattle.amm_model.specs.Json.{whole, wide, list}
-use Rattle.amm_model.specs.Certificate.{prices_value, legs_value, certificate_value, IsWritable}
+use Rattle.amm_model.specs.Certificate.{prices_value, legs_value, priced_tokens_value, route_value, certificate_value, AreWritable, IsWritable}
 use Rattle.amm_model.specs.Refusals.{refusal_number, refusal_word}
+
+-- what is printed of a basket and of a cycle
+abbrev pub open_quote_values : OpenQuote → List Data
+open_quote_values quote =
+    whole quote.delivered ∷ wide quote.bound ∷ priced_tokens_value quote.problem.tokens quote.prices ∷ route_value quote.problem.pools quote.route.legs ∷ []
 
 -- what follows the word `ok`
 abbrev pub ok_values : Answer → List Data
@@ -41,6 +47,8 @@ ok_values (answers.Total n) = whole n ∷ []
 ok_values (answers.Observe number o) = whole number ∷ whole o.time ∷ wide o.acc0 ∷ wide o.acc1 ∷ []
 ok_values (answers.Average averages) = wide averages.price0 ∷ wide averages.price1 ∷ []
 ok_values (answers.Consult n) = whole n ∷ []
+ok_values (answers.Basket quote) = open_quote_values quote
+ok_values (answers.Cycle quote) = open_quote_values quote
 ok_values (answers.Window found) = whole found.first ∷ whole found.second ∷ wide found.averages.price0 ∷ wide found.averages.price1 ∷ []
 
 -- what follows the number of the line
@@ -59,4 +67,6 @@ reply_text reply = compact_text (reply_value reply) ++ 10 ∷ []
 abbrev pub CanBeWritten : Answer → Type 0
 CanBeWritten (answers.Split number quote) = IsWritable quote
 CanBeWritten (answers.Certificate quote) = IsWritable quote
+CanBeWritten (answers.Basket quote) = AreWritable quote.problem.tokens quote.problem.pools quote.prices quote.route.legs
+CanBeWritten (answers.Cycle quote) = AreWritable quote.problem.tokens quote.problem.pools quote.prices quote.route.legs
 CanBeWritten _ = Unit {0}

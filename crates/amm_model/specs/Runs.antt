@@ -15,8 +15,10 @@ use Rattle.amm_model.specs.CommandView.{CommandView}
 use Rattle.amm_model.specs.Reading.{command_of_line}
 use Rattle.amm_model.specs.Ledger.{Ledger, quote_of}
 use Rattle.amm_model.specs.Sound.{IsAtRest}
-use Rattle.amm_model.specs.Routing.{PoolTrade, IsRoute, delivered_by, open_view}
+use Rattle.amm_model.specs.Routing.{OpenView, PoolTrade, IsRoute, delivered_by, open_view}
 use Rattle.amm_model.specs.Settlement.{IsDue, IsPaidAsQuoted}
+use Rattle.amm_model.specs.Sales.{IsSold}
+use Rattle.amm_model.specs.CycleRuns.{IsCycleGain}
 use Rattle.amm_model.specs.Laws.{ZeroKept, TokenTotalsKept, Deposited, Withdrawn}
 use Rattle.amm_model.specs.Answers.{ComesTo, answer_of, ledger_after}
 use Rattle.amm_model.specs.ReplyText.{reply_text}
@@ -77,19 +79,34 @@ abbrev pub SettledBy : CommandView → Answer → Ledger → Ledger → Type 0
 SettledBy (command.act actor (command.settle asked deadline)) answer old new = SettlesQuotes actor asked deadline answer old new
 SettledBy asked answer old new = Unit {0}
 
+-- What is known of baskets and cycles: whoever sells a basket has what its quote delivers for no
+-- more than its parts, and whoever takes a cycle has its profit and everything else as it was.
+abbrev pub TradedBy : CommandView → Answer → Ledger → Ledger → Type 0
+TradedBy (command.basket actor parts t min deadline) (answers.Basket quote) old new = IsSold old new actor quote
+TradedBy (command.cycle actor t deadline) (answers.Cycle quote) old new = IsCycleGain old new actor quote
+TradedBy asked answer old new = Unit {0}
+
 -- what holds of the command of a line, if it has one
 abbrev pub OfCommand : Line → (CommandView → Type 0) → Type 0
 OfCommand (Whole bytes) holds = MatchResult (command_of_line bytes) holds (λ _. Unit {0})
 OfCommand line holds = Unit {0}
 
--- no route over the pools of a printed quote delivers more than the bound that is printed
+-- no route of the problem delivers more than the bound
+abbrev pub IsBeatenByNone : OpenView → (bound : ℕ) → Type 0
+IsBeatenByNone problem bound = (route : List PoolTrade) → IsRoute problem route → delivered_by problem route ≤ bound
+
+-- No route over the pools of what is printed delivers more than the bound that is printed; nor does
+-- what is printed itself.
 abbrev pub IsUnbeaten : Answer → Type 0
-IsUnbeaten (answers.Split number quote) = (route : List PoolTrade) → IsRoute (open_view quote.problem) route → delivered_by (open_view quote.problem) route ≤ quote.bound
+IsUnbeaten (answers.Split number quote) = IsBeatenByNone (open_view quote.problem) quote.bound
+IsUnbeaten (answers.Basket quote) = IsBeatenByNone quote.problem quote.bound × (quote.delivered ≤ quote.bound)
+IsUnbeaten (answers.Cycle quote) = IsBeatenByNone quote.problem quote.bound × (quote.delivered ≤ quote.bound)
 IsUnbeaten answer = Unit {0}
 
 -- A step of which more is known: it leaves a ledger at rest; a refused line changes nothing, no
 -- asset of the zero holder falls, and the totals of tokens are moved by an accepted deposit or
--- withdrawal alone; settlements pay their quotes; and no route beats the bound of a split.
+-- withdrawal alone; settlements pay their quotes, and baskets and cycles what they print; and no
+-- route beats a bound that is printed.
 pub record FairStep (old : Ledger) (number : ℕ) (line : Line) (replies : List Reply) (new : Ledger) : Type 0 where
   pub step : Step old number line replies new
   pub rest : IsAtRest new
@@ -97,6 +114,7 @@ pub record FairStep (old : Ledger) (number : ℕ) (line : Line) (replies : List 
   pub zero : ZeroKept old new
   pub totals : (answer : Answer) → replies ≡ one_reply number answer → TotalsMovedBy line answer old new
   pub settled : (answer : Answer) → replies ≡ one_reply number answer → OfCommand line (λ asked. SettledBy asked answer old new)
+  pub traded : (answer : Answer) → replies ≡ one_reply number answer → OfCommand line (λ asked. TradedBy asked answer old new)
   pub unbeaten : (answer : Answer) → replies ≡ one_reply number answer → IsUnbeaten answer
 
 -- the runs in which each step is fair

@@ -27,6 +27,7 @@ may_split ledger s t d = do
 pub record KeepsQuote (ledger : Ledger) (s t : Name) (d : ℕ) (made : Made Answer) : Type 0 where
   pub quote : Quote
   pub problem : IsProblemIn ledger s t d quote.problem
+  pub some : HasNoRoute quote.problem → ⊥
   pub split : IsSplitAnswer quote
   pub kept : made.ledger ≡ with_quote ledger quote
   pub told : made.answer ≡ answers.Split (length ledger.quotes + 1) quote

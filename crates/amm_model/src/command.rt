@@ -1,5 +1,5 @@
 //! What a line asks for.
-use crate::RoutePath;
+use crate::{PartList, RoutePath};
 use amm_names::{Asset, Holder, PoolName, TokenName, UserName};
 
 /// What is to be added to the pool of two tokens at a fee of 1, 3 or 10 thousandths. Amounts are at
@@ -164,6 +164,18 @@ pub enum Command {
     Window {
         pool: PoolName,
         seconds: u64,
+    },
+    Basket {
+        actor: UserName,
+        parts: PartList,
+        t: TokenName,
+        min: u64,
+        deadline: u64,
+    },
+    Cycle {
+        actor: UserName,
+        t: TokenName,
+        deadline: u64,
     },
     Act {
         actor: UserName,

@@ -37,6 +37,6 @@ pub use problem::{
     parts_determine_problem,
 };
 pub use reply::{Answer, Reply};
-pub use route::{Hop, Leg, Quote, Route};
+pub use route::{Hop, Leg, OpenQuote, Quote, Route};
 pub use route_path::{FeeList, RoutePath, TokenList};
 pub use trade::{Matched, Side, Trade};

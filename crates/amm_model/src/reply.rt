@@ -1,7 +1,7 @@
 //! What is answered to a line.
 use crate::{
-    AddReceipt, AmountList, Averages, BurnReceipt, MintReceipt, Observation, PairRecord, Quote,
-    Refusal, RemoveReceipt, SkimReceipt, SwapReceipt, WindowAnswer,
+    AddReceipt, AmountList, Averages, BurnReceipt, MintReceipt, Observation, OpenQuote, PairRecord,
+    Quote, Refusal, RemoveReceipt, SkimReceipt, SwapReceipt, WindowAnswer,
 };
 use amm_names::PoolName;
 
@@ -78,6 +78,8 @@ pub enum Answer {
         n: u64,
     },
     Window(WindowAnswer),
+    Basket(OpenQuote),
+    Cycle(OpenQuote),
 }
 
 /// The answer to a line, with the number of the line, counted from 1.

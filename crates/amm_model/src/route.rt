@@ -1,7 +1,7 @@
 //! Routes leg by leg, and quotes.
 ghost use Rattle.std.specs.Prelude.{◌≡◌, IfOk};
 
-use crate::{LegList, Prices, Problem};
+use crate::{LegList, OpenProblem, Prices, Problem};
 use amm_names::Memory;
 use std::alloc::Global;
 
@@ -65,4 +65,15 @@ impl Quote {
             bound: self.bound,
         })
     }
+}
+
+/// What is printed for a problem of any parts: the problem, prices, a route, what it delivers, and
+/// the bound at the prices. Without parts the route is a cycle, and what it delivers its profit.
+#[derive(Drop)]
+pub struct OpenQuote {
+    pub problem: OpenProblem,
+    pub prices: Prices,
+    pub route: Route,
+    pub delivered: u64,
+    pub bound: u128,
 }
