@@ -2,23 +2,32 @@
 use Rattle.std.specs.Prelude.{ℕ, ◌≤◌, ◌<◌, List, length, All}
 use Rattle.std.specs.Coded.{×_prop, Π_prop, →_prop, Unit-prop, le_prop, Coded-set, coded_ℕ}
 use Rattle.amm_model.specs.declared.route.Leg.{Leg}
+use Rattle.amm_model.specs.declared.route.OpenQuote.{OpenQuote}
 use Rattle.amm_model.specs.declared.route.Quote.{Quote}
+use Rattle.amm_model.specs.declared.problem.ProblemPool.{ProblemPool}
+use Rattle.amm_names.specs.Names.{Name}
 use Rattle.amm_model.specs.declared.limits.TheConstants.{AMOUNT_LIMIT}
 use Rattle.amm_model.specs.declared.reply.Answer.{Answer}
 use Rattle.amm_model.specs.declared.reply.Answer.TheVariants as answers
-use Rattle.amm_model.specs.Certificate.{IsWritable}
+use Rattle.amm_model.specs.Certificate.{AreWritable, IsWritable}
 use Rattle.amm_model.specs.ReplyText.{CanBeWritten}
 
 all_prop : {X : Type 0} (P : X → Type 0) → ((x : X) → IsProp (P x)) → (xs : List X) → IsProp (All P xs)
 all_prop P one xs = Π_prop (λ k. Π_prop (λ d. →_prop (one _)))
 
-quote_prop : (quote : Quote) → IsProp (IsWritable quote)
-quote_prop quote x y = λ i. record {
-  priced = Coded-set coded_ℕ (length quote.prices) (length quote.problem.tokens) x.priced y.priced i;
+writable_prop : (tokens : List Name) (pools : List ProblemPool) (prices : List ℕ) (legs : List Leg) → IsProp (AreWritable tokens pools prices legs)
+writable_prop tokens pools prices legs x y = λ i. record {
+  priced = Coded-set coded_ℕ (length prices) (length tokens) x.priced y.priced i;
   few = le_prop x.few y.few i;
-  there = all_prop (λ (leg : Leg). leg.pool < length quote.problem.pools) (λ leg. le_prop) quote.route.legs x.there y.there i;
-  amounts = all_prop (λ (leg : Leg). (leg.input ≤ AMOUNT_LIMIT) × (leg.output ≤ AMOUNT_LIMIT)) (λ leg. ×_prop le_prop le_prop) quote.route.legs x.amounts y.amounts i;
+  there = all_prop (λ (leg : Leg). leg.pool < length pools) (λ leg. le_prop) legs x.there y.there i;
+  amounts = all_prop (λ (leg : Leg). (leg.input ≤ AMOUNT_LIMIT) × (leg.output ≤ AMOUNT_LIMIT)) (λ leg. ×_prop le_prop le_prop) legs x.amounts y.amounts i;
 }
+
+quote_prop : (quote : Quote) → IsProp (IsWritable quote)
+quote_prop quote = writable_prop quote.problem.tokens quote.problem.pools quote.prices quote.route.legs
+
+open_quote_prop : (quote : OpenQuote) → IsProp (AreWritable quote.problem.tokens quote.problem.pools quote.prices quote.route.legs)
+open_quote_prop quote = writable_prop quote.problem.tokens quote.problem.pools quote.prices quote.route.legs
 
 pub answer_prop : (answer : Answer) → IsProp (CanBeWritten answer)
 answer_prop (answers.Split number quote) = quote_prop quote
@@ -51,3 +60,5 @@ answer_prop (answers.Observe number observation) = Unit-prop
 answer_prop (answers.Average averages) = Unit-prop
 answer_prop (answers.Consult n) = Unit-prop
 answer_prop (answers.Window found) = Unit-prop
+answer_prop (answers.Basket quote) = open_quote_prop quote
+answer_prop (answers.Cycle quote) = open_quote_prop quote

@@ -4,7 +4,7 @@ ghost use Rattle.std.specs.List.{zip};
 ghost use Rattle.serde_json.specs.Data.{string};
 ghost use Rattle.serde_json.specs.Events.{SendsValue};
 ghost use Rattle.amm_model.specs.Json.{whole, list};
-ghost use Rattle.amm_model.specs.Certificate.{pool_value, price_value, leg_value, prices_value, legs_value, IsWritable};
+ghost use Rattle.amm_model.specs.Certificate.{pool_value, price_value, leg_value, priced_tokens_value, prices_value, route_value, legs_value, IsWritable};
 ghost use Rattle.amm_model.specs.Routing.{token0_of, token1_of};
 ghost use Rattle.amm_model.specs.declared.route.Leg as legs_view;
 ghost use Rattle.amm_text.specs.Sends.{SendsEach};
@@ -71,9 +71,20 @@ pub fn send_prices<S: Serializer>(quote: &Quote, out: &mut S) -> Result<(), S::E
     requires { length quote.now.prices ≡ length quote.now.problem.tokens }
     ensures { OnOk result (SendsValue (prices_value quote.now) (S.written out.old) (S.written out.new)) }
 {
-    let tokens = quote.problem.tokens();
+    send_priced(quote.problem.tokens(), quote.prices.as_slice(), out)
+}
+
+/// Tokens with their prices.
+pub fn send_priced<S: Serializer>(
+    tokens: &[TokenName],
+    prices: &[u64],
+    out: &mut S,
+) -> Result<(), S::Error>
+    requires { length prices.now ≡ length tokens.now }
+    ensures { OnOk result (SendsValue (priced_tokens_value tokens.now prices.now) (S.written out.old) (S.written out.new)) }
+{
     out.begin_seq(Some(tokens.len()))?;
-    send_each_price(tokens, quote.prices.as_slice(), out)?;
+    send_each_price(tokens, prices, out)?;
     out.end_seq()
 }
 
@@ -120,8 +131,19 @@ pub fn send_legs<S: Serializer>(quote: &Quote, out: &mut S) -> Result<(), S::Err
     requires { IsWritable quote.now }
     ensures { OnOk result (SendsValue (legs_value quote.now) (S.written out.old) (S.written out.new)) }
 {
-    let legs = quote.route.legs.as_slice();
+    send_route(quote.problem.pools(), quote.route.legs.as_slice(), out)
+}
+
+/// Legs over these pools, in the order in which they are taken.
+pub fn send_route<S: Serializer>(
+    pools: &[ProblemPool],
+    legs: &[Leg],
+    out: &mut S,
+) -> Result<(), S::Error>
+    requires { All (λ (leg : legs_view.Leg). leg.pool < length pools.now) legs.now }
+    ensures { OnOk result (SendsValue (route_value pools.now legs.now) (S.written out.old) (S.written out.new)) }
+{
     out.begin_seq(Some(legs.len()))?;
-    send_each_leg(quote.problem.pools(), legs, out)?;
+    send_each_leg(pools, legs, out)?;
     out.end_seq()
 }

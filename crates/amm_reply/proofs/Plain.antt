@@ -1,16 +1,23 @@
 -- A reply has no float.
 use Rattle.std.proofs.Common.{◌≡◌, ℕ, false, List, ◌∷◌, map, refl}
+use Rattle.std.specs.Prelude.{codes}
+use Rattle.serde_json.specs.Data.{string}
 use Rattle.serde_json.specs.Written.{has_float}
+use Rattle.amm_model.specs.declared.route.OpenQuote.{OpenQuote}
 use Rattle.amm_model.specs.declared.reply.Answer.{Answer}
 use Rattle.amm_model.specs.declared.reply.Answer.TheVariants as answers
 use Rattle.amm_model.specs.declared.reply.Reply.{Reply}
 use Rattle.amm_model.specs.Json.{whole, list}
-use Rattle.amm_model.specs.ReplyText.{verdict, reply_value}
+use Rattle.amm_model.specs.ReplyText.{open_quote_values, verdict, reply_value}
 use Rattle.amm_text.proofs.Sent.{ArePlain, list_plain, all_plain}
-use Rattle.amm_cert.proofs.PlainQuotes.{prices_plain, legs_plain, certificate_plain}
+use Rattle.amm_cert.proofs.PlainQuotes.{priced_plain, route_plain, prices_plain, legs_plain, certificate_plain}
 
 amounts_plain : (amounts : List ℕ) → has_float (list (map whole amounts)) ≡ false
 amounts_plain amounts = list_plain (map whole amounts) (all_plain whole (λ _. refl) amounts)
+
+open_quote_plain : (line : ℕ) (quote : OpenQuote) → ArePlain (whole line ∷ string (codes "ok") ∷ open_quote_values quote)
+open_quote_plain line quote =
+    (refl, (refl, (refl, (refl, (priced_plain quote.problem.tokens quote.prices, (route_plain quote.problem.pools quote.route.legs, tt))))))
 
 answer_plain : (line : ℕ) (answer : Answer) → ArePlain (whole line ∷ verdict answer)
 answer_plain line (answers.Refused code) = (refl, (refl, (refl, (refl, tt))))
@@ -42,6 +49,8 @@ answer_plain line (answers.Total n) = (refl, (refl, (refl, tt)))
 answer_plain line (answers.Observe number observation) = (refl, (refl, (refl, (refl, (refl, (refl, tt))))))
 answer_plain line (answers.Average averages) = (refl, (refl, (refl, (refl, tt))))
 answer_plain line (answers.Consult n) = (refl, (refl, (refl, tt)))
+answer_plain line (answers.Basket quote) = open_quote_plain line quote
+answer_plain line (answers.Cycle quote) = open_quote_plain line quote
 answer_plain line (answers.Window found) = (refl, (refl, (refl, (refl, (refl, (refl, tt))))))
 
 pub reply_plain : (reply : Reply) → has_float (reply_value reply) ≡ false

@@ -3,16 +3,16 @@ ghost use Rattle.std.specs.Prelude.{◌≡◌, ◌≤◌, ◌+◌, ◌∷◌, []
 ghost use Rattle.serde_json.specs.Data.{string};
 ghost use Rattle.serde_json.specs.Events.{SendsValue};
 ghost use Rattle.amm_model.specs.Json.{whole, wide, list};
-ghost use Rattle.amm_model.specs.Certificate.{IsWritable, prices_value, legs_value, certificate_value};
+ghost use Rattle.amm_model.specs.Certificate.{AreWritable, IsWritable, prices_value, legs_value, certificate_value};
 ghost use Rattle.amm_model.specs.Refusals.{refusal_number, refusal_word};
-ghost use Rattle.amm_model.specs.ReplyText.{reply_value, CanBeWritten};
+ghost use Rattle.amm_model.specs.ReplyText.{open_quote_values, reply_value, CanBeWritten};
 ghost use Rattle.amm_text.specs.Sends.{SendsFront};
 ghost use Rattle.amm_cert.proofs.OneProof.{answer_prop};
 
-use amm_cert::quote::{send_legs, send_prices};
+use amm_cert::quote::{send_legs, send_priced, send_prices, send_route};
 use amm_cert::send_certificate;
 use amm_model::{
-    Answer, Averages, Observation, PairRecord, PoolName, Quote, Refusal, WindowAnswer,
+    Answer, Averages, Observation, OpenQuote, PairRecord, PoolName, Quote, Refusal, WindowAnswer,
 };
 use amm_text::{send_numbers, send_pool, send_wide};
 use serde::{Described, Serialize, Serializer};
@@ -77,6 +77,8 @@ impl Serialize for ReplyRow<'_> {
             Answer::Average(averages) => averaged(line, averages, out),
             Answer::Consult { n } => accepted(line, &[*n], out),
             Answer::Window(found) => window(line, found, out),
+            Answer::Basket(quote) => open_quote(line, quote, out),
+            Answer::Cycle(quote) => open_quote(line, quote, out),
         }
     }
 }
@@ -154,6 +156,20 @@ fn split<S: Serializer>(line: u64, number: u64, quote: &Quote, out: &mut S) -> R
     send_wide(quote.bound, out)?;
     send_prices(quote, out)?;
     send_legs(quote, out)?;
+    out.end_seq()
+}
+
+/// What is delivered, its bound, prices and legs: of a basket, and of a cycle.
+fn open_quote<S: Serializer>(line: u64, quote: &OpenQuote, out: &mut S) -> Result<(), S::Error>
+    requires { AreWritable quote.now.problem.tokens quote.now.problem.pools quote.now.prices quote.now.route.legs }
+    ensures { OnOk result (SendsValue (list (whole line ∷ string (codes "ok")
+        ∷ open_quote_values quote.now)) (S.written out.old) (S.written out.new)) }
+{
+    front(line, "ok", 4, out)?;
+    out.u64(quote.delivered)?;
+    send_wide(quote.bound, out)?;
+    send_priced(quote.problem.tokens(), quote.prices.as_slice(), out)?;
+    send_route(quote.problem.pools(), quote.route.legs.as_slice(), out)?;
     out.end_seq()
 }
 
