@@ -7,6 +7,7 @@ pub mod Fronts
 pub mod Names
 pub mod Words
 pub mod Lists
+pub mod Baskets
 pub mod LoanLemmas
 pub mod Lines
 pub mod Paths

@@ -2,6 +2,8 @@
 use Rattle.std.specs.Prelude.{ℕ, List, codes}
 use Rattle.amm_command.specs.declared.plain.kind.Kind.{Kind}
 use Rattle.amm_command.specs.declared.plain.kind.Kind.TheVariants as kinds
+use Rattle.amm_command.specs.declared.plain.kind.MarketKind.{MarketKind}
+use Rattle.amm_command.specs.declared.plain.kind.MarketKind.TheVariants as markets
 use Rattle.amm_command.specs.declared.plain.kind.StepKind.{StepKind}
 use Rattle.amm_command.specs.declared.plain.kind.StepKind.TheVariants as steps
 
@@ -21,6 +23,17 @@ step_word steps.SwapIn = codes "swapin"
 step_word steps.SwapOut = codes "swapout"
 step_word steps.Settle = codes "settle"
 
+-- a kind of routes or of the price oracle
+abbrev pub market_word : MarketKind → List ℕ
+market_word markets.Split = codes "split"
+market_word markets.Certificate = codes "certificate"
+market_word markets.Basket = codes "basket"
+market_word markets.Cycle = codes "cycle"
+market_word markets.Observe = codes "observe"
+market_word markets.Average = codes "average"
+market_word markets.Consult = codes "consult"
+market_word markets.Window = codes "window"
+
 -- any kind
 abbrev pub kind_word : Kind → List ℕ
 kind_word kinds.Deposit = codes "deposit"
@@ -30,13 +43,8 @@ kind_word kinds.FeeTo = codes "feeto"
 kind_word kinds.Setter = codes "setter"
 kind_word kinds.QuoteOut = codes "quoteout"
 kind_word kinds.QuoteIn = codes "quotein"
-kind_word kinds.Split = codes "split"
-kind_word kinds.Certificate = codes "certificate"
 kind_word kinds.Pool = codes "pool"
 kind_word kinds.Balance = codes "balance"
 kind_word kinds.Total = codes "total"
-kind_word kinds.Observe = codes "observe"
-kind_word kinds.Average = codes "average"
-kind_word kinds.Consult = codes "consult"
-kind_word kinds.Window = codes "window"
+kind_word (kinds.Market kind) = market_word kind
 kind_word (kinds.Step kind) = step_word kind

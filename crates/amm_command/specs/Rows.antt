@@ -1,10 +1,11 @@
 -- The row that a command is written as: its word, and the values behind it.
-use Rattle.std.specs.Prelude.{ℕ, List, [], ◌∷◌, ◌++◌, codes, ◌==◌, if◌then◌else◌}
+use Rattle.std.specs.Prelude.{ℕ, List, [], ◌∷◌, ◌++◌, map, codes, ◌==◌, if◌then◌else◌}
 use Rattle.serde_json.specs.Data.{Data, string}
 use Rattle.amm_names.specs.declared.holder.Asset.{Asset}
 use Rattle.amm_names.specs.declared.holder.Asset.TheVariants as assets
 use Rattle.amm_names.specs.declared.holder.Holder.{Holder}
 use Rattle.amm_names.specs.declared.holder.Holder.TheVariants as holders
+use Rattle.amm_model.specs.declared.problem.Part.{Part}
 use Rattle.amm_model.specs.declared.route_path.RoutePath.{RoutePath}
 use Rattle.amm_model.specs.Json.{list, whole}
 use Rattle.amm_model.specs.CommandView as command
@@ -40,6 +41,14 @@ tokens_behind (first ∷ ts) fees = string first ∷ hop_values ts fees
 -- a path
 abbrev pub path_value : RoutePath → Data
 path_value path = list (tokens_behind path.tokens path.fees)
+
+-- a part of a basket: a token, and an amount of it
+abbrev pub part_value : Part → Data
+part_value part = list (string part.token ∷ whole part.amount ∷ [])
+
+-- the parts of a basket
+abbrev pub parts_value : List Part → Data
+parts_value parts = list (map part_value parts)
 
 -- the fee behind the values of a pair: nothing for the fee of 3
 abbrev pub fee_values : ℕ → List Data
@@ -103,6 +112,8 @@ command_kind (command.observe actor pool) = codes "observe"
 command_kind (command.average first second) = codes "average"
 command_kind (command.consult first second token n) = codes "consult"
 command_kind (command.window pool seconds) = codes "window"
+command_kind (command.basket actor parts t min deadline) = codes "basket"
+command_kind (command.cycle actor t deadline) = codes "cycle"
 command_kind (command.act actor m) = move_kind m
 
 -- what stands behind the word
@@ -123,6 +134,8 @@ command_values (command.observe actor pool) = string actor ∷ string pool ∷ [
 command_values (command.average first second) = whole first ∷ whole second ∷ []
 command_values (command.consult first second token n) = whole first ∷ whole second ∷ string token ∷ whole n ∷ []
 command_values (command.window pool seconds) = string pool ∷ whole seconds ∷ []
+command_values (command.basket actor parts t min deadline) = string actor ∷ parts_value parts ∷ string t ∷ whole min ∷ whole deadline ∷ []
+command_values (command.cycle actor t deadline) = string actor ∷ string t ∷ whole deadline ∷ []
 command_values (command.act actor m) = string actor ∷ move_values actor m
 
 -- a command as the value that it is written as

@@ -7,6 +7,7 @@
 #![tactic(auto)]
 
 mod form;
+mod parts;
 mod path;
 mod plain;
 mod row;

@@ -8,13 +8,14 @@ ghost use Rattle.amm_model.specs.CommandView.{view_of};
 ghost use Rattle.amm_model.specs.Reading as reading;
 ghost use Rattle.amm_model.specs.Reading.{act_row, command_of_line};
 ghost use Rattle.amm_command.specs.Front.{ahead};
-ghost use Rattle.amm_command.specs.Kinds.{kind_word, step_word};
+ghost use Rattle.amm_command.specs.Kinds.{kind_word, market_word, step_word};
 ghost use Rattle.amm_command.specs.Taken.{CommandTaken};
 
 mod cursor;
 mod kind;
 mod loan;
 mod part;
+mod parts;
 mod path;
 mod row;
 mod step_row;
@@ -22,7 +23,7 @@ mod step_row;
 use crate::step::fits;
 use amm_model::Command;
 use cursor::Cursor;
-use kind::{Kind, StepKind};
+use kind::{Kind, MarketKind, StepKind};
 use std::alloc::Global;
 
 /// The command that the bytes of a line are, where they are plainly written.
@@ -45,7 +46,7 @@ pub fn command(alloc: Global, bytes: &[u8]) -> Option<Command>
 }
 
 /// The row of a kind.
-#[tactic(auto, using(crate::proofs::Words::row_of_step), unfolding(amm_model::specs::Reading::row_of))]
+#[tactic(auto, using(crate::proofs::Words::row_of_step, crate::proofs::Words::row_of_market), unfolding(amm_model::specs::Reading::row_of))]
 fn row_of(alloc: Global, line: &mut Cursor<'_>, kind: Kind) -> Option<Command>
     ensures { IfSome result (λ c. CommandTaken (kind_word kind) (reading.row_of (kind_word kind))
         (ahead line.old) (ahead line.new) (view_of c)) }
@@ -58,16 +59,29 @@ fn row_of(alloc: Global, line: &mut Cursor<'_>, kind: Kind) -> Option<Command>
         Kind::Setter => row::setter(alloc, line),
         Kind::QuoteOut => row::quote_out(alloc, line),
         Kind::QuoteIn => row::quote_in(alloc, line),
-        Kind::Split => row::split(alloc, line),
-        Kind::Certificate => row::certificate(line),
         Kind::Pool => row::pool_row(alloc, line),
         Kind::Balance => row::balance(alloc, line),
         Kind::Total => row::total(alloc, line),
-        Kind::Observe => row::observe(alloc, line),
-        Kind::Average => row::average(line),
-        Kind::Consult => row::consult(alloc, line),
-        Kind::Window => row::window(alloc, line),
+        Kind::Market(kind) => market_row(alloc, line, kind),
         Kind::Step(kind) => act(alloc, line, kind),
+    }
+}
+
+/// The row of a kind of routes or of the price oracle.
+#[tactic(auto, unfolding(amm_model::specs::Reading::market_row))]
+fn market_row(alloc: Global, line: &mut Cursor<'_>, kind: MarketKind) -> Option<Command>
+    ensures { IfSome result (λ c. CommandTaken (market_word kind)
+        (reading.market_row (market_word kind)) (ahead line.old) (ahead line.new) (view_of c)) }
+{
+    match kind {
+        MarketKind::Split => row::split(alloc, line),
+        MarketKind::Certificate => row::certificate(line),
+        MarketKind::Basket => row::basket(alloc, line),
+        MarketKind::Cycle => row::cycle(alloc, line),
+        MarketKind::Observe => row::observe(alloc, line),
+        MarketKind::Average => row::average(line),
+        MarketKind::Consult => row::consult(alloc, line),
+        MarketKind::Window => row::window(alloc, line),
     }
 }
 

@@ -175,6 +175,34 @@ fn price_oracle(rt: HostRuntime) {
     }
 }
 
+/// Parts out of order, twice one token, none, one with an element too many, eight and nine;
+/// baskets and cycles with an element too few, and a cycle as a step.
+#[test]
+fn baskets_and_cycles(rt: HostRuntime) {
+    for (line, want) in [
+        ("[\"basket\",\"al\",[[\"B\",1],[\"A\",1]],\"T\",0,0]", 2),
+        ("[\"basket\",\"al\",[[\"A\",1],[\"A\",1]],\"T\",0,0]", 2),
+        ("[\"basket\",\"al\",[],\"T\",0,0]", 2),
+        ("[\"basket\",\"al\",[[\"A\",1,3]],\"T\",0,0]", 2),
+        ("[\"basket\",\"al\",[[\"A\",1]],\"T\",0]", 2),
+        (
+            "[\"basket\",\"al\",[[\"A\",1],[\"B\",1],[\"C\",1],[\"D\",1],[\"E\",1],[\"F\",1],[\"G\",1],[\"H\",1]],\"T\",0,0]",
+            0,
+        ),
+        (
+            "[\"basket\",\"al\",[[\"A\",1],[\"B\",1],[\"C\",1],[\"D\",1],[\"E\",1],[\"F\",1],[\"G\",1],[\"H\",1],[\"I\",1]],\"T\",0,0]",
+            2,
+        ),
+        ("[\"cycle\",\"al\",\"T\"]", 2),
+        (
+            "[\"flash\",\"al\",\"A/B\",1,0,[[\"cycle\",\"al\",\"A\",0]]]",
+            2,
+        ),
+    ] {
+        assert_eq!(rt; code(rt.alloc(), line.as_bytes()), want, "{line}");
+    }
+}
+
 /// A command with so many loans in one another, the innermost with no steps.
 fn nested(alloc: Global, loans: usize) -> Result<Vec<u8>, AllocError> {
     let mut line = Vec::new(alloc);

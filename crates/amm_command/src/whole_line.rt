@@ -4,7 +4,7 @@ ghost use Rattle.amm_model.specs.declared.fault.Refusal.TheVariants.{BadJson};
 ghost use Rattle.amm_model.specs.Json.{json_value};
 ghost use Rattle.amm_model.specs.Outcome.{Gives};
 ghost use Rattle.amm_model.specs.CommandView.{view_of};
-ghost use Rattle.amm_model.specs.Reading.{act_row, row_of, command_of_list, command_of, command_of_line};
+ghost use Rattle.amm_model.specs.Reading.{act_row, market_row, row_of, command_of_list, command_of, command_of_line};
 ghost use Rattle.serde_json.specs.View.{view};
 
 use crate::form::{MISFIT, list, text, user};
@@ -83,11 +83,23 @@ fn row_of(alloc: Global, kind: &str, arguments: &[Value]) -> Result<Command, Fau
         "setter" => row::setter(alloc, arguments),
         "quoteout" => row::quote_out(alloc, arguments),
         "quotein" => row::quote_in(alloc, arguments),
-        "split" => row::split(alloc, arguments),
-        "certificate" => row::certificate(arguments),
         "pool" => row::pool_row(alloc, arguments),
         "balance" => row::balance(alloc, arguments),
         "total" => row::total(alloc, arguments),
+        _ => market_row(alloc, kind, arguments),
+    }
+}
+
+/// The row of a kind of routes or of the price oracle, or of one that a step can be too.
+#[tactic(auto, unfolding(amm_model::specs::Reading::market_row))]
+fn market_row(alloc: Global, kind: &str, arguments: &[Value]) -> Result<Command, Fault>
+    ensures { Gives view_of result (market_row kind.now (map view arguments.now)) }
+{
+    match kind {
+        "split" => row::split(alloc, arguments),
+        "certificate" => row::certificate(arguments),
+        "basket" => row::basket(alloc, arguments),
+        "cycle" => row::cycle(alloc, arguments),
         "observe" => row::observe(alloc, arguments),
         "average" => row::average(arguments),
         "consult" => row::consult(alloc, arguments),

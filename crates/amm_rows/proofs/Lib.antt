@@ -1,5 +1,6 @@
 mod Ascii
 mod Apart
 mod ValuesBack
+mod PartsBack
 mod WrittenBack
 mod RowsBack

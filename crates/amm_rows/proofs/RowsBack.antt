@@ -14,15 +14,17 @@ use Rattle.amm_model.specs.Outcome.{◌>>=◌}
 use Rattle.amm_model.specs.Json.{each, list}
 use Rattle.amm_model.specs.CommandView as view
 use Rattle.amm_model.specs.CommandView.{CommandView, Move, Moves, moves_of}
-use Rattle.amm_model.specs.Reading.{as_step, as_steps, step_row, move_row, row_of, act_row, command_of_line, steps_inside}
+use Rattle.amm_model.specs.Reading.{as_step, as_steps, step_row, move_row, market_row, row_of, act_row, command_of_line, steps_inside}
 use Rattle.amm_model.specs.declared.limits.TheConstants.{STEP_LIMIT}
 use Rattle.amm_command.specs.Spelled.{ArePlain, inner_depth}
 use Rattle.amm_command.specs.Rows.{move_kind, move_values, step_value, steps_values, command_kind, command_values, row_value}
 use Rattle.amm_rows.specs.WellSpelled.{HasUtf8, ItemsHaveUtf8}
 use Rattle.amm_rows.specs.Writable.{IsStepRow, AreStepRows, IsRow}
 use Rattle.amm_command.proofs.Lists.{elements-items_of, items_plain}
+use Rattle.amm_command.proofs.Baskets.{parts_flat}
 use Rattle.amm_rows.proofs.Apart.{asset_reads, holder_reads}
 use Rattle.amm_rows.proofs.ValuesBack.{user_reads, token_reads, pool_reads, pool_utf8, asset_utf8, holder_utf8, amount_reads, amount_plain, fee_back, path_back}
+use Rattle.amm_rows.proofs.PartsBack.{parts_back}
 use Rattle.amm_rows.proofs.WrittenBack.{written_back}
 
 -- a step is read from its values, where so many loans may be open
@@ -193,7 +195,7 @@ mutual
 
 -- the row of a step's kind is that of a command with an actor
 act_of : (m : Move) (ds : List Data) → row_of (move_kind m) ds ≡ act_row (move_kind m) ds
-unfolding row_of
+unfolding row_of market_row
 act_of (view.transfer asset to n) ds = refl
 act_of (view.create a b fee) ds = refl
 act_of (view.mint pool to) ds = refl
@@ -218,7 +220,7 @@ act_back actor m h =
     (tt, one.plain) (omega (arith, one.flat)) (word_utf8 m, (IsUtf8-user actor h.0, one.utf8))
 
 pub row_back : (c : CommandView) → IsRow c → command_of_line (compact_text (row_value c)) ≡ Ok c
-unfolding row_of
+unfolding row_of market_row
 row_back (view.deposit user token n) h =
     written_back (view.deposit user token n) (rw (user_reads user h.0, token_reads token h.1.0, amount_reads n h.1.1) refl)
     (tt, (tt, (amount_plain n h.1.1, tt))) (omega arith) (IsUtf8-are_ascii _ refl, (IsUtf8-user user h.0, (IsUtf8-token token h.1.0, (tt, tt))))
@@ -255,4 +257,12 @@ row_back (view.consult first second token n) h =
 row_back (view.window pool seconds) h =
     written_back (view.window pool seconds) (rw (pool_reads pool h.0, amount_reads seconds h.1) refl)
     (tt, (amount_plain seconds h.1, tt)) (omega arith) (IsUtf8-are_ascii _ refl, (pool_utf8 pool h.0, (tt, tt)))
+row_back (view.basket actor parts t min deadline) h =
+    let back = parts_back parts h.1.0 in
+    written_back (view.basket actor parts t min deadline) (rw (user_reads actor h.0, back.fits, token_reads t h.1.1.0, amount_reads min h.1.1.1.0, amount_reads deadline h.1.1.1.1) refl)
+    (tt, (back.plain, (tt, (amount_plain min h.1.1.1.0, (amount_plain deadline h.1.1.1.1, tt))))) (omega (arith, parts_flat parts))
+    (IsUtf8-are_ascii _ refl, (IsUtf8-user actor h.0, (back.utf8, (IsUtf8-token t h.1.1.0, (tt, (tt, tt))))))
+row_back (view.cycle actor t deadline) h =
+    written_back (view.cycle actor t deadline) (rw (user_reads actor h.0, token_reads t h.1.0, amount_reads deadline h.1.1) refl)
+    (tt, (tt, (amount_plain deadline h.1.1, tt))) (omega arith) (IsUtf8-are_ascii _ refl, (IsUtf8-user actor h.0, (IsUtf8-token t h.1.0, (tt, tt))))
 row_back (view.act actor m) h = act_back actor m h

@@ -10,9 +10,10 @@ use Rattle.amm_names.specs.declared.holder.Holder.{Holder}
 use Rattle.amm_names.specs.declared.holder.Holder.TheVariants as holders
 use Rattle.amm_model.specs.declared.command.AddWant.{AddWant}
 use Rattle.amm_model.specs.declared.command.RemoveWant.{RemoveWant}
+use Rattle.amm_model.specs.declared.problem.Part.{Part}
 use Rattle.amm_model.specs.declared.route_path.RoutePath.{RoutePath}
 use Rattle.amm_model.specs.declared.limits.TheConstants.{AMOUNT_LIMIT, LOAN_LIMIT, STEP_LIMIT}
-use Rattle.amm_model.specs.Fits.{IsPath}
+use Rattle.amm_model.specs.Fits.{FitParts, IsPath}
 use Rattle.amm_model.specs.CommandView as view
 use Rattle.amm_model.specs.CommandView.{CommandView, Move, Moves}
 use Rattle.amm_model.specs.Reading.{steps_inside}
@@ -37,6 +38,11 @@ HasRoom n = n ≤ AMOUNT_LIMIT
 pub record IsPathRow (path : RoutePath) : Type 0 where
   pub whole : IsPath path
   pub tokens : All (λ token. IsTrue (is_token_name token)) path.tokens
+
+-- 1 to 8 parts, each of a token that is spelled as one, in the strict order of their tokens
+pub record ArePartRows (parts : List Part) : Type 0 where
+  pub whole : FitParts parts
+  pub tokens : All (λ (part : Part). IsTrue (is_token_name part.token)) parts
 
 pub record IsAddRow (want : AddWant) : Type 0 where
   pub a : IsTrue (is_token_name want.a)
@@ -96,4 +102,6 @@ IsRow (view.observe actor pool) = IsTrue (is_user_name actor) × IsTrue (is_pool
 IsRow (view.average first second) = HasRoom first × HasRoom second
 IsRow (view.consult first second token n) = HasRoom first × (HasRoom second × (IsTrue (is_token_name token) × HasRoom n))
 IsRow (view.window pool seconds) = IsTrue (is_pool_name pool) × HasRoom seconds
+IsRow (view.basket actor parts t min deadline) = IsTrue (is_user_name actor) × (ArePartRows parts × (IsTrue (is_token_name t) × (HasRoom min × HasRoom deadline)))
+IsRow (view.cycle actor t deadline) = IsTrue (is_user_name actor) × (IsTrue (is_token_name t) × HasRoom deadline)
 IsRow (view.act actor m) = IsTrue (is_user_name actor) × (IsStepRow m LOAN_LIMIT × (steps_inside m ≤ STEP_LIMIT))

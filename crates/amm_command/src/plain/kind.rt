@@ -1,6 +1,6 @@
 //! The word at the front of a row. A word that is none is found out here, before its row is read.
 ghost use Rattle.std.specs.Prelude.{◌≡◌, IfSome};
-ghost use Rattle.amm_command.specs.Kinds.{kind_word, step_word};
+ghost use Rattle.amm_command.specs.Kinds.{kind_word, market_word, step_word};
 
 /// What a step can ask for, and a line too.
 #[derive(Clone, Copy, Drop)]
@@ -20,6 +20,19 @@ pub enum StepKind {
     Settle,
 }
 
+/// What only a line can ask for of routes and of the price oracle.
+#[derive(Clone, Copy, Drop)]
+pub enum MarketKind {
+    Split,
+    Certificate,
+    Basket,
+    Cycle,
+    Observe,
+    Average,
+    Consult,
+    Window,
+}
+
 /// What a line can ask for.
 #[derive(Clone, Copy, Drop)]
 pub enum Kind {
@@ -30,21 +43,26 @@ pub enum Kind {
     Setter,
     QuoteOut,
     QuoteIn,
-    Split,
-    Certificate,
     Pool,
     Balance,
     Total,
-    Observe,
-    Average,
-    Consult,
-    Window,
+    Market(MarketKind),
     Step(StepKind),
 }
 
 impl StepKind {
     /// The kind that the word is, if it is one.
     pub fn of(word: &[u8]) -> Option<StepKind>
+        ensures { IfSome result (λ kind. word.now ≡ step_word kind) }
+    {
+        match StepKind::of_ledger(word) {
+            Some(kind) => Some(kind),
+            None => StepKind::of_router(word),
+        }
+    }
+
+    /// The kind, of those of balances and pairs, that the word is.
+    fn of_ledger(word: &[u8]) -> Option<StepKind>
         ensures { IfSome result (λ kind. word.now ≡ step_word kind) }
     {
         if word == b"transfer".as_slice() {
@@ -63,7 +81,16 @@ impl StepKind {
             Some(StepKind::Sync)
         } else if word == b"flash".as_slice() {
             Some(StepKind::Flash)
-        } else if word == b"add".as_slice() {
+        } else {
+            None
+        }
+    }
+
+    /// The kind, of those of the router and of settlement, that the word is.
+    fn of_router(word: &[u8]) -> Option<StepKind>
+        ensures { IfSome result (λ kind. word.now ≡ step_word kind) }
+    {
+        if word == b"add".as_slice() {
             Some(StepKind::Add)
         } else if word == b"remove".as_slice() {
             Some(StepKind::Remove)
@@ -73,6 +100,33 @@ impl StepKind {
             Some(StepKind::SwapOut)
         } else if word == b"settle".as_slice() {
             Some(StepKind::Settle)
+        } else {
+            None
+        }
+    }
+}
+
+impl MarketKind {
+    /// The kind that the word is, if it is one.
+    fn of(word: &[u8]) -> Option<MarketKind>
+        ensures { IfSome result (λ kind. word.now ≡ market_word kind) }
+    {
+        if word == b"split".as_slice() {
+            Some(MarketKind::Split)
+        } else if word == b"certificate".as_slice() {
+            Some(MarketKind::Certificate)
+        } else if word == b"basket".as_slice() {
+            Some(MarketKind::Basket)
+        } else if word == b"cycle".as_slice() {
+            Some(MarketKind::Cycle)
+        } else if word == b"observe".as_slice() {
+            Some(MarketKind::Observe)
+        } else if word == b"average".as_slice() {
+            Some(MarketKind::Average)
+        } else if word == b"consult".as_slice() {
+            Some(MarketKind::Consult)
+        } else if word == b"window".as_slice() {
+            Some(MarketKind::Window)
         } else {
             None
         }
@@ -94,6 +148,16 @@ impl Kind {
     fn of_line(word: &[u8]) -> Option<Kind>
         ensures { IfSome result (λ kind. word.now ≡ kind_word kind) }
     {
+        match MarketKind::of(word) {
+            Some(kind) => Some(Kind::Market(kind)),
+            None => Kind::of_ledger(word),
+        }
+    }
+
+    /// The kind, of those of the ledger's state, that the word is.
+    fn of_ledger(word: &[u8]) -> Option<Kind>
+        ensures { IfSome result (λ kind. word.now ≡ kind_word kind) }
+    {
         if word == b"deposit".as_slice() {
             Some(Kind::Deposit)
         } else if word == b"withdraw".as_slice() {
@@ -108,24 +172,12 @@ impl Kind {
             Some(Kind::QuoteOut)
         } else if word == b"quotein".as_slice() {
             Some(Kind::QuoteIn)
-        } else if word == b"split".as_slice() {
-            Some(Kind::Split)
-        } else if word == b"certificate".as_slice() {
-            Some(Kind::Certificate)
         } else if word == b"pool".as_slice() {
             Some(Kind::Pool)
         } else if word == b"balance".as_slice() {
             Some(Kind::Balance)
         } else if word == b"total".as_slice() {
             Some(Kind::Total)
-        } else if word == b"observe".as_slice() {
-            Some(Kind::Observe)
-        } else if word == b"average".as_slice() {
-            Some(Kind::Average)
-        } else if word == b"consult".as_slice() {
-            Some(Kind::Consult)
-        } else if word == b"window".as_slice() {
-            Some(Kind::Window)
         } else {
             None
         }

@@ -1,12 +1,13 @@
 //! The rows that only a line can be, from the first value behind the word to the bracket.
 ghost use Rattle.std.specs.Prelude.{◌≡◌, codes, IfSome};
 ghost use Rattle.amm_model.specs.CommandView.{view_of};
-ghost use Rattle.amm_model.specs.Reading.{deposit_row, withdraw_row, time_row, fee_to_row, setter_row, quote_out_row, quote_in_row, split_row, certificate_row, pool_row, balance_row, total_row, observe_row, average_row, consult_row, window_row};
+ghost use Rattle.amm_model.specs.Reading.{deposit_row, withdraw_row, time_row, fee_to_row, setter_row, quote_out_row, quote_in_row, split_row, certificate_row, pool_row, balance_row, total_row, observe_row, average_row, consult_row, window_row, basket_row, cycle_row};
 ghost use Rattle.amm_command.specs.Front.{ahead};
 ghost use Rattle.amm_command.specs.Taken.{CommandTaken};
 
 use super::cursor::Cursor;
 use super::part;
+use super::parts::parts;
 use super::path::path;
 use amm_model::Command;
 use std::alloc::Global;
@@ -236,6 +237,44 @@ pub fn window(alloc: Global, line: &mut Cursor<'_>) -> Option<Command>
     let seconds = part::amount(line)?;
     if line.close() {
         Some(Command::Window { pool, seconds })
+    } else {
+        None
+    }
+}
+
+#[inline(never)]
+pub fn basket(alloc: Global, line: &mut Cursor<'_>) -> Option<Command>
+    ensures { IfSome result (λ c. CommandTaken (codes "basket") basket_row
+        (ahead line.old) (ahead line.new) (view_of c)) }
+{
+    let actor = part::user(alloc, line)?;
+    let parts = parts(alloc, line)?;
+    let t = part::token(alloc, line)?;
+    let min = part::amount(line)?;
+    let deadline = part::amount(line)?;
+    if line.close() {
+        Some(Command::Basket {
+            actor,
+            parts,
+            t,
+            min,
+            deadline,
+        })
+    } else {
+        None
+    }
+}
+
+#[inline(never)]
+pub fn cycle(alloc: Global, line: &mut Cursor<'_>) -> Option<Command>
+    ensures { IfSome result (λ c. CommandTaken (codes "cycle") cycle_row
+        (ahead line.old) (ahead line.new) (view_of c)) }
+{
+    let actor = part::user(alloc, line)?;
+    let t = part::token(alloc, line)?;
+    let deadline = part::amount(line)?;
+    if line.close() {
+        Some(Command::Cycle { actor, t, deadline })
     } else {
         None
     }

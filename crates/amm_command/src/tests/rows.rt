@@ -1,5 +1,5 @@
 //! Commands written again as their rows, plainly: commands are the same where their rows are.
-use amm_model::{Asset, Command, Holder, RoutePath, Step, UserName};
+use amm_model::{Asset, Command, Holder, Part, RoutePath, Step, UserName};
 use std::alloc::{AllocError, Global};
 
 /// A row that is being written, from its bracket on.
@@ -101,6 +101,22 @@ fn put_fee(alloc: Global, text: &mut Vec<u8>, fee: Option<&u8>) -> Result<(), Al
         }
         _ => Ok(()),
     }
+}
+
+/// The parts of a basket.
+fn parts_text(alloc: Global, parts: &[Part]) -> Result<Vec<u8>, AllocError> {
+    let mut text = Vec::from_slice(alloc, b"[")?;
+    for (at, part) in parts.iter().enumerate() {
+        if at > 0 {
+            text.push(b',')?;
+        }
+        text.push(b'[')?;
+        put_name(&mut text, part.token.as_bytes())?;
+        let amount = format!(in alloc; ",{}]", part.amount)?;
+        text.extend_from_slice(amount.as_bytes())?;
+    }
+    text.push(b']')?;
+    Ok(text)
 }
 
 /// The row of a step that is no loan.
@@ -290,6 +306,32 @@ fn question(alloc: Global, command: &Command) -> Result<Vec<u8>, AllocError> {
     }
 }
 
+/// The row of a basket or of a cycle.
+fn routed(alloc: Global, command: &Command) -> Result<Vec<u8>, AllocError> {
+    match command {
+        Command::Basket {
+            actor,
+            parts,
+            t,
+            min,
+            deadline,
+        } => {
+            let parts = parts_text(alloc, parts.as_slice())?;
+            Row::new(alloc, "basket")?
+                .names(&[actor.as_bytes()])?
+                .list(&parts)?
+                .names(&[t.as_bytes()])?
+                .numbers(alloc, &[*min, *deadline])?
+                .end()
+        }
+        Command::Cycle { actor, t, deadline } => Row::new(alloc, "cycle")?
+            .names(&[actor.as_bytes(), t.as_bytes()])?
+            .numbers(alloc, &[*deadline])?
+            .end(),
+        _ => question(alloc, command),
+    }
+}
+
 /// The row of what is asked of the price oracle.
 fn oracle_row(alloc: Global, command: &Command) -> Result<Vec<u8>, AllocError> {
     match command {
@@ -344,7 +386,7 @@ fn row_of(alloc: Global, command: &Command) -> Result<Vec<u8>, AllocError> {
             .names(&[actor.as_bytes(), to.as_bytes()])?
             .end(),
         Command::Act { actor, step } => act(alloc, actor, step),
-        _ => question(alloc, command),
+        _ => routed(alloc, command),
     }
 }
 

@@ -62,6 +62,14 @@ fn each_kind_both_ways(rt: HostRuntime) -> Result<(), Fail> {
             "[\"window\",\"ETH/USD:10\",30 ]",
         ),
         (
+            "[\"basket\",\"alice\",[[\"A\",100000],[\"B\",100000]],\"T\",181322,0]",
+            "[\"basket\",\"alice\",[[\"A\",100000],[\"\\u0042\",100000]],\"T\",181322,0]",
+        ),
+        (
+            "[\"cycle\",\"bob\",\"USD\",0]",
+            "[\"cycle\",\"bob\",\"USD\",  0]",
+        ),
+        (
             "[\"transfer\",\"alice\",\"ETH\",\"bob\",4503599627370495]",
             "[\"tr\\u0061nsfer\",\"alice\",\"ETH\",\"bob\",4503599627370495]",
         ),
