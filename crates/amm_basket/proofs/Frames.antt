@@ -9,8 +9,7 @@ use Rattle.amm_model.specs.declared.route.Hop.{Hop}
 use Rattle.amm_model.specs.declared.route.Leg.{Leg}
 use Rattle.amm_names.specs.Names.{Name}
 use Rattle.amm_model.specs.Legs.{AreLegs, Inventory, after_leg, after_legs, token_in, token_out, used_after}
-use Rattle.amm_model.specs.Paths.{hop_gives, hop_places}
-use Rattle.amm_legs.specs.Portions.{legs_along}
+use Rattle.amm_model.specs.Paths.{hop_gives, hop_places, legs_along}
 
 pub joined : (pools : List ProblemPool) (used : List ℕ) (held : Inventory) (a b : List Leg) → AreLegs pools used held a → AreLegs pools (used_after used a) (after_legs pools held a) b →
     AreLegs pools used held (a ++ b) × (after_legs pools held (a ++ b) ≡ after_legs pools (after_legs pools held a) b)

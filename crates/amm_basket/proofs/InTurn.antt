@@ -13,19 +13,18 @@ use Rattle.amm_model.specs.declared.route.Hop.{Hop}
 use Rattle.amm_model.specs.declared.route.Leg.{Leg}
 use Rattle.amm_names.specs.Names.{Name}
 use Rattle.amm_model.specs.Routing.{OpenView, IsBefore, IsOpenProblem, amount_given, part_place, token_place}
-use Rattle.amm_model.specs.Baskets.{IsBestWay, IsSequentialValue, IsValueOfPart, IsWayOfPart}
+use Rattle.amm_model.specs.Baskets.{AtLeastPartValues, HasNoBasket, IsBestWay, IsSequentialValue, IsValueOfPart, IsWayOfPart}
 use Rattle.amm_model.specs.Legs.{AreLegs, Delivers, Inventory, after_legs, used_after}
-use Rattle.amm_model.specs.Paths.{ComesBefore, gives, hop_places}
+use Rattle.amm_model.specs.Paths.{ComesBefore, gives, hop_places, legs_along}
 use Rattle.amm_model.specs.Values.{AtLeastTheWays, IsOneOrTwoWayValue}
 use Rattle.amm_model.proofs.Problems.{before-apart, none_given, parts_there, target_there, token_at}
-use Rattle.amm_legs.specs.Portions.{Portion, given_by, legs_along, legs_of}
+use Rattle.amm_legs.specs.Portions.{Portion, given_by, legs_of}
 use Rattle.amm_legs.proofs.Portions.{portions-legal}
 use Rattle.amm_graph.proofs.Sides.{name_at}
 use Rattle.amm_split.proofs.Determined.{before-not-after}
 use Rattle.amm_split.proofs.OneOrTwo.{eq-self, given-at, not-same}
-use Rattle.amm_basket.specs.Sales.{IsSale, IsSold, no_part}
-use Rattle.amm_basket.specs.BasketAnswers.{HasNoBasket}
-use Rattle.amm_basket.specs.declared.sale.Sale.{Sale}
+use Rattle.amm_basket.specs.Candidates.{AreCandidates, GoesWhole, no_part}
+use Rattle.amm_basket.specs.declared.candidates.Candidates.{Candidates}
 use Rattle.amm_basket.proofs.Frames.{framed, joined, off_path}
 
 -- the parts in turn with their legs
@@ -167,7 +166,7 @@ nothing_sold problem used legs free none = (
       subst (λ (l : List Leg). IsSequence problem.pools problem.t [] problem.parts (l ++ more) (0 + value)) (sym none) (subst (λ (n : ℕ). IsSequence problem.pools problem.t [] problem.parts more n) same start)),
 )
 
-pub one_sold : (problem : OpenView) (part : Part) (left : List Part) (used used_after : List ℕ) (legs legs_after : List Leg) → IsSold problem part used used_after legs legs_after →
+pub one_sold : (problem : OpenView) (part : Part) (left : List Part) (used used_after : List ℕ) (legs legs_after : List Leg) → GoesWhole problem part used used_after legs legs_after →
     Selling problem (part ∷ left) used legs → Selling problem left used_after legs_after
 one_sold problem part left used used_after legs legs_after (inl (none, used-are, legs-are)) (sum, so_far) = (
   sum,
@@ -237,8 +236,14 @@ one_of problem amount (inl none) some = absurd (some none)
 one_of problem amount (inr is) some = is
 
 -- nothing alone is nothing at all, and something alone is a value
-pub nothing_alone : (problem : OpenView) (sale : Sale) → IsSale problem sale → sale.alone.amount ≡ 0 → (value : ℕ) → IsValueOfPart problem value → ⊥
-nothing_alone problem sale is none value given = let most = is.most value given in let some = some_value problem value given in absurd (omega arith)
+pub nothing_alone : (problem : OpenView) (candidates : Candidates) → AreCandidates problem candidates → candidates.alone.amount ≡ 0 → (value : ℕ) → IsValueOfPart problem value → ⊥
+nothing_alone problem candidates is none value given = let most = is.most value given in let some = some_value problem value given in absurd (omega arith)
 
-pub something_alone : (problem : OpenView) (sale : Sale) → IsSale problem sale → (sale.alone.amount ≡ 0 → ⊥) → HasNoBasket problem → ⊥
-something_alone problem sale is some none = none sale.alone.amount (one_of problem sale.alone.amount is.value some)
+pub something_alone : (problem : OpenView) (candidates : Candidates) → AreCandidates problem candidates → (candidates.alone.amount ≡ 0 → ⊥) → HasNoBasket problem → ⊥
+something_alone problem candidates is some none = none candidates.alone.amount (one_of problem candidates.alone.amount is.value some)
+
+-- what is at least every value of both kinds
+pub at_least : (problem : OpenView) (amount : ℕ) → ((value : ℕ) → IsSequentialValue problem.pools problem.t [] problem.parts value → value ≤ amount)
+    → ((value : ℕ) → IsValueOfPart problem value → value ≤ amount) → AtLeastPartValues problem amount
+at_least problem amount in_turn alone value (inl is) = in_turn value is
+at_least problem amount in_turn alone value (inr is) = alone value is

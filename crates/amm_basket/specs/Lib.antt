@@ -1,2 +1,1 @@
-pub mod BasketAnswers
-pub mod Sales
+pub mod Candidates

@@ -3,7 +3,7 @@ ghost use Rattle.std.specs.Prelude.{Contains, IfOk, map};
 ghost use Rattle.amm_model.specs.Paths.{AreAllPaths};
 ghost use Rattle.amm_graph.specs.Hops.{hops_of};
 ghost use Rattle.amm_split.specs.Shares.{AreRows};
-ghost use Rattle.amm_basket.specs.Sales.{IsSold};
+ghost use Rattle.amm_basket.specs.Candidates.{GoesWhole};
 
 use amm_graph::Path;
 use amm_model::{Leg, Memory, OpenProblem, Part};
@@ -41,7 +41,7 @@ pub fn sell(
     requires part { Contains problem.now.parts part.now }
     requires paths { AreAllPaths problem.now.pools part.now.token problem.now.t (map hops_of paths.now) }
     requires rows { AreRows problem.now.pools paths.now part.now.amount rows.now }
-    ensures { IfOk result (λ _. IsSold problem.now part.now used.old.items used.new.items legs.old.items legs.new.items) }
+    ensures { IfOk result (λ _. GoesWhole problem.now part.now used.old.items used.new.items legs.old.items legs.new.items) }
 {
     let d = part_amount(problem, part);
     let best = best_share(&equal_terms(d, 16), paths, rows, 16, used);

@@ -10,10 +10,10 @@
 
 mod alone;
 mod answers;
+mod candidates;
 mod in_turn;
-mod sale;
 
-pub use answers::{OpenQuote, basket};
+pub use answers::basket;
 
 #[cfg(test)]
 mod tests;

@@ -35,7 +35,7 @@ fn add_part(alloc: Global, parts: &mut Vec<Part>, text: &[u8], amount: u64) -> O
 // What the basket of the parts to T delivers; 0 where there is none.
 fn delivered(alloc: Global, parts: Vec<Part>, pools: Vec<ProblemPool>) -> Option<u64> {
     let problem = OpenProblem::from_parts(alloc, parts, token(alloc, b"T")?, pools).ok()??;
-    match basket(alloc, &problem).ok()? {
+    match basket(alloc, problem).ok()? {
         Some(quote) => Some(quote.delivered),
         None => Some(0),
     }

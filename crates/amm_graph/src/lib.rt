@@ -14,7 +14,7 @@ ghost use Rattle.amm_graph.specs.Hops.{hops_of};
 
 use amm_model::{Memory, OpenProblem, Problem};
 pub use amounts::{along, gives, hop_at};
-pub use market::{open_problem, problem, problem_of_book};
+pub use market::{open_problem, open_problem_of_book, problem, problem_of_book};
 pub use path::Path;
 use std::alloc::Global;
 pub use walk::side;

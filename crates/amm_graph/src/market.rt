@@ -66,7 +66,23 @@ pub fn open_problem(
     requires amounts { All (λ (part : part_view.Part). (1 ≤ part.amount) × (part.amount < 2 ^ 52)) parts.now }
     ensures { IfOk result (λ problem. IsOpenProblemIn state.now parts.now t.now problem) }
 {
-    let book = state.book();
+    open_problem_of_book(alloc, state.book(), parts, t)
+}
+
+/// The same over a book within a transaction, whose ledger is at rest.
+pub fn open_problem_of_book(
+    alloc: Global,
+    book: &Book,
+    parts: &[Part],
+    t: &TokenName,
+) -> Result<OpenProblem, Memory>
+    requires rest { IsAtRest book.now.ledger }
+    requires few { length parts.now ≤ PART_LIMIT }
+    requires rising { AllPairs (λ (a b : part_view.Part). IsBefore a.token b.token) parts.now }
+    requires apart { All (λ (part : part_view.Part). part.token ≢ t.now) parts.now }
+    requires amounts { All (λ (part : part_view.Part). (1 ≤ part.amount) × (part.amount < 2 ^ 52)) parts.now }
+    ensures { IfOk result (λ problem. IsOpenProblemIn book.now.ledger parts.now t.now problem) }
+{
     let pools = pools_of(alloc, book)?;
     let parts = Vec::from_slice(alloc, parts)?;
     Ok(OpenProblem::from_parts(alloc, parts, *t, pools)?.unwrap())

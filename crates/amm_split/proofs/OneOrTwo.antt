@@ -14,9 +14,9 @@ use Rattle.amm_model.specs.Routing.{OpenView, IsBefore, IsOpenProblem, amount_gi
 use Rattle.amm_names.specs.Names.{Name}
 use Rattle.amm_model.proofs.Problems.{before-apart, none_given}
 use Rattle.amm_model.specs.Legs.{Delivers}
-use Rattle.amm_model.specs.Paths.{AreApart, IsPath, gives, hop_places}
+use Rattle.amm_model.specs.Paths.{AreApart, IsPath, gives, hop_places, legs_along}
 use Rattle.amm_model.specs.Values.{sixteenths}
-use Rattle.amm_legs.specs.Portions.{ArePortions, Portion, given_by, legs_along, legs_of}
+use Rattle.amm_legs.specs.Portions.{ArePortions, Portion, given_by, legs_of}
 use Rattle.amm_legs.proofs.Portions.{portions-legal}
 use Rattle.amm_graph.specs.declared.path.Path.{Path}
 use Rattle.amm_split.specs.declared.sizes.BestWay.{BestWay}

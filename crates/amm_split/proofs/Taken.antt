@@ -8,10 +8,10 @@ use Rattle.std.proofs.lemmas.List.Sums.{sum_by-cons}
 use Rattle.amm_model.specs.declared.route.Hop.{Hop}
 use Rattle.amm_model.specs.declared.route.Leg.{Leg}
 use Rattle.amm_model.specs.Routing.{IsProblem, ProblemView}
-use Rattle.amm_model.specs.Paths.{AreAllPaths, ComesBefore, IsPath, gives, hop_places}
+use Rattle.amm_model.specs.Paths.{AreAllPaths, ComesBefore, IsPath, gives, hop_places, legs_along}
 use Rattle.amm_model.specs.Spreads.{AreTaken, CanBeTaken, IsPreferred, Share, Spread, gain, share_input, share_output}
 use Rattle.amm_model.specs.Values.{sixteenths}
-use Rattle.amm_legs.specs.Portions.{ArePortions, Portion, given_by, legs_along, legs_of}
+use Rattle.amm_legs.specs.Portions.{ArePortions, Portion, given_by, legs_of}
 use Rattle.amm_legs.proofs.Portions.{portions-deliver}
 use Rattle.amm_graph.specs.declared.path.Path.{Path}
 use Rattle.amm_graph.specs.Hops.{hops_of}

@@ -18,7 +18,7 @@ use std::alloc::Global;
 
 /// A quote that answers the split of the problem; None exactly where nothing can be routed.
 pub fn split(alloc: Global, problem: &Problem) -> Result<Option<Quote>, Memory>
-    ensures { IfOk result (λ found. MatchOption found (HasNoRoute problem.now) (λ quote. (quote.problem ≡ problem.now) × IsSplitAnswer quote)) }
+    ensures { IfOk result (λ found. MatchOption found (HasNoRoute problem.now) (λ quote. (quote.problem ≡ problem.now) × (¬ HasNoRoute problem.now) × IsSplitAnswer quote)) }
 {
     let all = paths(alloc, problem)?;
     let Some(found) = best_of_ways(alloc, problem.as_open(), source_part(problem), &all)? else {

@@ -1,7 +1,6 @@
 //! The legs of paths.
 ghost use Rattle.std.specs.Prelude.{◌≡◌, ◌<◌, ◌≤◌, ◌^◌, ◌++◌, ◌∷◌, [], All, IfOk, length};
-ghost use Rattle.amm_model.specs.Paths.{IsHop, hop_gives as hop_gives_of, hop_places};
-ghost use Rattle.amm_legs.specs.Portions.{leg_of_hop, legs_along};
+ghost use Rattle.amm_model.specs.Paths.{IsHop, hop_gives as hop_gives_of, hop_places, leg_of_hop, legs_along};
 ghost use Rattle.amm_graph.specs.Hops.{hops_of};
 
 use amm_graph::{Path, gives};

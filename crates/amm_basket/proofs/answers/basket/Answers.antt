@@ -1,8 +1,9 @@
 use Rattle.amm_basket.proofs.InTurn.{nothing_alone, something_alone}
 use Rattle.amm_basket.proofs.answers.basket.Goals as goal
 
-pub returns-then-sale-eq0 : goal.returns-then-sale-eq0
-returns-then-sale-eq0 c = nothing_alone c.args.problem.now c.in_ok-sale.sale c.in_ok-sale.ensures c.if-sale-eq0.true
+pub returns-then-candidates-eq0 : goal.returns-then-candidates-eq0
+returns-then-candidates-eq0 c = nothing_alone c.args.problem c.in_ok-candidates.candidates c.in_ok-candidates.ensures c.if-candidates-eq0.true
 
 pub returns : goal.returns
-returns c = (something_alone c.args.problem.now c.in_ok-sale.sale c.in_ok-sale.ensures c.if-sale-eq0.false, c.in_ok-quote.ensures)
+returns c =
+    (c.in_ok-quote.ensures.problem, something_alone c.args.problem c.in_ok-candidates.candidates c.in_ok-candidates.ensures c.if-candidates-eq0.false, c.in_ok-quote.ensures.answer)

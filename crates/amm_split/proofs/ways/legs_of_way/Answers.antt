@@ -1,8 +1,7 @@
 use Rattle.std.proofs.Common.{◌≡◌, ℕ, List, arith, ap, sym, ◌∙◌, ◌-◌, ◌++◌}
 use Rattle.amm_model.specs.declared.route.Leg.{Leg}
-use Rattle.amm_model.specs.Paths.{gives}
+use Rattle.amm_model.specs.Paths.{gives, legs_along}
 use Rattle.amm_model.specs.Values.{sixteenths}
-use Rattle.amm_legs.specs.Portions.{legs_along}
 use Rattle.amm_split.specs.Pairs.{no_path}
 use Rattle.amm_split.specs.Shares.{hops_at}
 use Rattle.amm_split.proofs.Bridge.{path_at}

@@ -2,9 +2,9 @@ use Rattle.std.proofs.Common.{◌≡◌, ◌<◌, ◌⊎◌, ℕ, drop, get_or}
 use Rattle.amm_model.specs.Baskets.{IsValueOfPart}
 use Rattle.amm_model.specs.Legs.{Delivers}
 use Rattle.amm_model.specs.Values.{AtLeastTheWays}
-use Rattle.amm_basket.specs.Sales.{no_part}
+use Rattle.amm_basket.specs.Candidates.{no_part}
 use Rattle.amm_basket.proofs.InTurn.{Selling}
-use Rattle.amm_basket.proofs.sale.sold.Given as goal
+use Rattle.amm_basket.proofs.candidates.candidates_of.Given as goal
 
 abbrev pub invariant-loop-i : goal.invariant-loop-i
 invariant-loop-i l = record {

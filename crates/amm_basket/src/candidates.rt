@@ -2,7 +2,7 @@
 ghost use Rattle.std.specs.Prelude.{◌≡◌, ◌<◌, IfOk, length, map, slice_index_or};
 ghost use Rattle.amm_model.specs.Paths.{AreAllPaths};
 ghost use Rattle.amm_graph.specs.Hops.{hops_of};
-ghost use Rattle.amm_basket.specs.Sales.{IsSale, no_part};
+ghost use Rattle.amm_basket.specs.Candidates.{AreCandidates, no_part};
 
 use crate::alone::best_alone;
 use crate::in_turn::{rows_of_part, sell, sell_in_eighths};
@@ -13,7 +13,7 @@ use std::alloc::Global;
 
 /// Candidates for a basket's route.
 #[derive(Drop)]
-pub struct Sale {
+pub struct Candidates {
     /// The best one-way or two-way value of all parts, and its legs.
     pub alone: Delivery,
     /// The legs of all parts in turn, each whole on its best way.
@@ -23,8 +23,8 @@ pub struct Sale {
 }
 
 /// What the parts give, each over all its paths.
-pub fn sold(alloc: Global, problem: &OpenProblem) -> Result<Sale, Memory>
-    ensures { IfOk result (λ sale. IsSale problem.now sale) }
+pub fn candidates_of(alloc: Global, problem: &OpenProblem) -> Result<Candidates, Memory>
+    ensures { IfOk result (λ candidates. AreCandidates problem.now candidates) }
 {
     let parts = problem.parts();
     let mut alone = no_legs(alloc, problem);
@@ -40,7 +40,7 @@ pub fn sold(alloc: Global, problem: &OpenProblem) -> Result<Sale, Memory>
         sell(problem, part, &paths, &rows, &mut whole, &mut used)?;
         sell_in_eighths(problem, part, &paths, &rows, &mut eighths, &mut taken)?;
     }
-    Ok(Sale {
+    Ok(Candidates {
         alone,
         in_turn: LegList::from_vec(whole),
         in_eighths: LegList::from_vec(eighths),

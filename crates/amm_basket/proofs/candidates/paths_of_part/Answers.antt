@@ -3,9 +3,9 @@ use Rattle.amm_model.specs.Paths.{AreAllPaths}
 use Rattle.amm_names.specs.Names.{Name}
 use Rattle.amm_graph.specs.Hops.{hops_of}
 use Rattle.amm_graph.proofs.Sides.{name_at}
-use Rattle.amm_basket.specs.Sales.{no_part}
+use Rattle.amm_basket.specs.Candidates.{no_part}
 use Rattle.amm_basket.proofs.InTurn.{part_named, target_named}
-use Rattle.amm_basket.proofs.sale.paths_of_part.Goals as goal
+use Rattle.amm_basket.proofs.candidates.paths_of_part.Goals as goal
 
 pub paths_between-requires-clause-apart : goal.paths_between-requires-clause-apart
 paths_between-requires-clause-apart c e =

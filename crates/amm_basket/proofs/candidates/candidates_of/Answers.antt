@@ -1,9 +1,9 @@
 use Rattle.std.proofs.Common.{◌≡◌, ◌+◌, List, arith, ap, sym, subst, ◌∙◌, drop, get_or, length, [], ◌∷◌, ◌<◌, ◌≤◌}
 use Rattle.std.proofs.lemmas.List.{drop_all, drop_more, get_or_default}
 use Rattle.amm_model.specs.declared.problem.Part.{Part}
-use Rattle.amm_basket.specs.Sales.{no_part}
+use Rattle.amm_basket.specs.Candidates.{no_part}
 use Rattle.amm_basket.proofs.InTurn.{Selling, all_sold, most_more, most_of_all, one_sold}
-use Rattle.amm_basket.proofs.sale.sold.Goals as goal
+use Rattle.amm_basket.proofs.candidates.candidates_of.Goals as goal
 
 pub loop-i-preserved : goal.loop-i-preserved
 loop-i-preserved c =
