@@ -15,15 +15,13 @@ use Rattle.amm_model.specs.Routing.{OpenView, PoolTrade, ArePrices, IsOpenProble
 use Rattle.amm_names.specs.Names.{Name}
 use Rattle.amm_model.specs.Bound.{bound_of}
 use Rattle.amm_model.specs.Legs.{trade_of}
-use Rattle.amm_model.specs.Paths.{IsHop, Leads, gives, hop_from, hop_gives, hop_places, hop_to}
-use Rattle.amm_model.specs.Cycles.{IsCycle, StandsOn, profit}
+use Rattle.amm_model.specs.Paths.{IsHop, Leads, gives, hop_from, hop_gives, hop_places, hop_to, leg_of_hop, legs_along}
+use Rattle.amm_model.specs.Cycles.{IsCycle, IsCycleTrade, StandsOn, profit}
 use Rattle.amm_model.proofs.Swap.{fee_range, admits_turned, greatest_output, amount_out-lt}
 use Rattle.amm_model.proofs.Problems.{fee_of-is}
 use Rattle.amm_bound.proofs.Law.{no_route_beats_bound}
-use Rattle.amm_legs.specs.Portions.{leg_of_hop, legs_along}
 use Rattle.amm_legs.proofs.Portions.{gives-zero}
 use Rattle.amm_graph.proofs.Lists.{All-none, AllPairs-none}
-use Rattle.amm_cycle.specs.CycleTrades.{IsCycleTrade}
 
 -- ---- each trade
 

@@ -4,7 +4,7 @@ use Rattle.amm_model.specs.declared.problem.ProblemPool.{ProblemPool}
 use Rattle.amm_model.specs.declared.route.Hop.{Hop}
 use Rattle.amm_names.specs.Names.{Name}
 use Rattle.amm_model.specs.Paths.{IsHop, Leads, gives, hop_places, hop_to}
-use Rattle.amm_model.specs.Cycles.{IsCycle, profit}
+use Rattle.amm_model.specs.Cycles.{IsCycle, StandsOn, profit}
 use Rattle.amm_cycle.specs.declared.chain.Chain.{Chain}
 use Rattle.amm_cycle.specs.declared.found.Found.{Found}
 
@@ -29,10 +29,15 @@ pub record AreGiven (pools : List ProblemPool) (hops : List Hop) (amounts : List
   pub each : (e : ℕ) → e < 52 → slice_index amounts e ≡ gives pools hops (2 ^ e)
   pub below : (e : ℕ) → e < 52 → slice_index amounts e < 2 ^ 52
 
--- a cycle, an input on which it stands, and its profit on it
+-- hops that bring more than some power of two
+abbrev pub StandsOnPower : List ProblemPool → List Hop → Type 0
+StandsOnPower pools hops = (e : ℕ) × (e ≤ 51) × StandsOn pools hops (2 ^ e)
+
+-- a cycle that stands on a power of two, an input, and its profit on it
 pub record IsStanding (pools : List ProblemPool) (t : Name) (found : Found) : Type 0 where
   pub count : found.chain.count ≤ 4
   pub cycle : IsCycle pools t (hops_of found.chain)
+  pub power : StandsOnPower pools (hops_of found.chain)
   pub input : found.x < 2 ^ 52
   pub some : 1 ≤ found.profit
   pub is : found.profit ≡ profit pools (hops_of found.chain) found.x

@@ -1,3 +1,1 @@
-pub mod CycleTrades
-pub mod CycleAnswers
 pub mod Chains

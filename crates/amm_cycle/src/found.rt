@@ -14,6 +14,9 @@ use amm_model::OpenProblem;
 // Inputs are below this.
 const INPUT_LIMIT: u64 = 0x10_0000_0000_0000;
 
+// How far from the best input of the search others are tried one by one.
+const REACH: u64 = 256;
+
 /// A cycle, what goes in, and the profit on it; no profit: no cycle.
 #[derive(Clone, Copy, Drop)]
 pub struct Found {
@@ -77,6 +80,21 @@ fn climbed(problem: &OpenProblem, start: Found) -> Found
             return best;
         }
         best = stepped(problem, best, step);
+    }
+    best
+}
+
+/// The cycle on the best of the inputs beside this one. Halved steps end where rounding makes a
+/// small peak, often a unit below the greatest profit.
+pub fn polished(problem: &OpenProblem, start: Found) -> Found
+    requires start { IsStanding problem.now.pools problem.now.t start }
+    ensures found { IsStanding problem.now.pools problem.now.t result }
+    ensures more { start.profit ≤ result.profit }
+{
+    let least = start.x.saturating_sub(REACH);
+    let mut best = start;
+    for distance in 0..=2 * REACH {
+        best = tried(problem, best, least + distance);
     }
     best
 }

@@ -1,7 +1,6 @@
 //! The legs of a cycle.
 ghost use Rattle.std.specs.Prelude.{◌≡◌, ◌<◌, ◌≤◌, ◌^◌, All, IfOk};
-ghost use Rattle.amm_model.specs.Paths.{IsHop};
-ghost use Rattle.amm_legs.specs.Portions.{legs_along};
+ghost use Rattle.amm_model.specs.Paths.{IsHop, legs_along};
 ghost use Rattle.amm_cycle.specs.Chains.{hops_of};
 
 use crate::chain::Chain;

@@ -26,8 +26,8 @@ fn pool(alloc: Global, tokens: (&[u8], &[u8]), fee: u8, reserves: (u64, u64)) ->
 fn profit(alloc: Global, pools: Vec<ProblemPool>) -> Option<u64> {
     let t = TokenName::read(alloc, b"USD").ok()??;
     let problem = OpenProblem::from_parts(alloc, Vec::new(alloc), t, pools).ok()??;
-    match cycle(alloc, &problem).ok()? {
-        Some(quote) => Some(quote.profit),
+    match cycle(alloc, problem).ok()? {
+        Some(quote) => Some(quote.delivered),
         None => Some(0),
     }
 }
@@ -49,15 +49,17 @@ fn over_one(alloc: Global) -> Option<u64> {
     profit(alloc, pools)
 }
 
-// Over a pool of BTC and ETH, one of BTC and USD, and one of ETH and USD.
-fn over_three(alloc: Global) -> Option<u64> {
+// Over a pool of BTC and ETH, one of BTC and USD, and one of ETH and USD, all of fee 3.
+fn over_three(
+    alloc: Global,
+    btc_eth: (u64, u64),
+    btc_usd: (u64, u64),
+    eth_usd: (u64, u64),
+) -> Option<u64> {
     let mut pools = Vec::new(alloc);
-    let even = (1000000, 1000000);
-    pools.push(pool(alloc, (b"BTC", b"ETH"), 3, even)?).ok()?;
-    pools
-        .push(pool(alloc, (b"BTC", b"USD"), 3, (1000000, 2000000))?)
-        .ok()?;
-    pools.push(pool(alloc, (b"ETH", b"USD"), 3, even)?).ok()?;
+    pools.push(pool(alloc, (b"BTC", b"ETH"), 3, btc_eth)?).ok()?;
+    pools.push(pool(alloc, (b"BTC", b"USD"), 3, btc_usd)?).ok()?;
+    pools.push(pool(alloc, (b"ETH", b"USD"), 3, eth_usd)?).ok()?;
     profit(alloc, pools)
 }
 
@@ -90,5 +92,25 @@ fn cycle_of_three(rt: HostRuntime) {
     // 131072 USD give floor(997*131072*10^6 / (10^9 + 997*131072)) = 115575 ETH, these
     // floor(997*115575*10^6 / (10^9 + 997*115575)) = 103322 BTC, and these
     // floor(997*103322*2*10^6 / (10^9 + 997*103322)) = 186783 USD: 55711 more.
-    assert_eq!(rt; is_from(55711, over_three(rt.alloc())), Some(true));
+    let even = (1000000, 1000000);
+    let found = over_three(rt.alloc(), even, (1000000, 2000000), even);
+    assert_eq!(rt; is_from(55711, found), Some(true));
+}
+
+// A script in Python worked these out apart from the search: in whole numbers, for each list of two
+// or three different pools that leads from USD over other tokens back to it, and for each input
+// below the greatest reserve of USD (a pool pays less than its reserve, so no other input gains),
+// it took hop by hop (1000 - fee)*x*out // (1000*in + (1000 - fee)*x), and kept the greatest
+// difference of the last output and the input. The halved steps alone end one or two units lower.
+#[test]
+fn greatest_of_all_inputs(rt: HostRuntime) {
+    // 506 USD give 976 ETH, and these 1559 USD.
+    let two = over_two(rt.alloc(), (3731, 1424), (783, 2811));
+    assert_eq!(rt; two, Some(1053));
+    // 46 USD give 10 ETH, and these 56 USD.
+    let small = over_two(rt.alloc(), (211, 918), (126, 768));
+    assert_eq!(rt; small, Some(10));
+    // 311 USD give 325 ETH, these 590 BTC, and these 403 USD.
+    let three = over_three(rt.alloc(), (7118, 3585), (7361, 5448), (6284, 5685));
+    assert_eq!(rt; three, Some(92));
 }

@@ -10,7 +10,7 @@ use Rattle.amm_names.specs.declared.holder.Asset.{Asset}
 use Rattle.amm_names.specs.declared.holder.Asset.TheVariants as assets
 use Rattle.amm_model.specs.declared.problem.ProblemPool.{ProblemPool}
 use Rattle.amm_model.specs.declared.route.Hop.{Hop}
-use Rattle.amm_model.specs.declared.reply.Answer.{Answer}
+use Rattle.amm_model.specs.declared.pair.SwapReceipt.{SwapReceipt}
 use Rattle.amm_model.specs.Outcome.{Made}
 use Rattle.amm_model.specs.Ledger.{Ledger, balance, is_listed, pair_of}
 use Rattle.amm_model.specs.Pools.{asset0, asset1}
@@ -18,14 +18,13 @@ use Rattle.amm_model.specs.CommandView as view
 use Rattle.amm_model.specs.CommandView.{Moves}
 use Rattle.amm_model.specs.Cycles.{payment, nested_loans}
 use Rattle.amm_model.specs.Meaning.{meaning, meaning_of_all}
-use Rattle.amm_model.specs.Paths.{IsHop, Leads, hop_pool, hop_from, hop_to, hop_gives, hop_places, gives}
-use Rattle.amm_legs.specs.Portions.{leg_of_hop, legs_along}
+use Rattle.amm_model.specs.Paths.{IsHop, Leads, hop_pool, hop_from, hop_to, hop_gives, hop_places, gives, leg_of_hop, legs_along}
 use Rattle.amm_settle.proofs.Trading.{IsAsKept, IsSoundPool}
 use Rattle.amm_settle.proofs.OneLeg.{pools_apart}
 use Rattle.amm_settle.proofs.AllLegs.{AreSoundPools}
 use Rattle.amm_loans.proofs.Lent.{LendDone}
 use Rattle.amm_loans.proofs.Sides.{IsBorrowed}
-use Rattle.amm_loans.proofs.OneLoan.{IsLeft, LoanDone, lent, borrowed, borrowed_tokens, loan_done, paid_tokens}
+use Rattle.amm_loans.proofs.OneLoan.{IsLeft, LoanDone, lent, borrowed, borrowed_tokens, flash_made, loan_done, paid_tokens}
 use Rattle.amm_loans.proofs.OneHop.{HopSide, hop_side, some_in}
 
 -- The pool of each hop is free and as in the problem.
@@ -54,8 +53,8 @@ pub record HasRun (pools : List ProblemPool) (hops : List Hop) (actor from to : 
 
 -- The loans were made and returned.
 pub record ChainDone (pools : List ProblemPool) (hop : Hop) (hops : List Hop) (actor t : Name) (x : ℕ) (old : Ledger) : Type 0 where
-  pub made : Made Answer
-  pub is : meaning old actor (nested_loans pools (leg_of_hop pools hop x) (legs_along pools hops (hop_gives pools hop x))) ≡ Ok made
+  pub made : Made SwapReceipt
+  pub is : meaning old actor (nested_loans pools (leg_of_hop pools hop x) (legs_along pools hops (hop_gives pools hop x))) ≡ Ok (flash_made made.ledger made.answer)
   pub run : HasRun pools (hop ∷ hops) actor (hop_from pools hop) t x (gives pools (hop ∷ hops) x) old made.ledger
 
 other_pool : (a b : Name) → a ≢ b → (◌≢◌ {A = Holder} (holders.Pool a) (holders.Pool b))

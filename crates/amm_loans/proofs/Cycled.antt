@@ -11,29 +11,38 @@ use Rattle.amm_names.specs.declared.holder.Asset.TheVariants as assets
 use Rattle.amm_model.specs.declared.problem.ProblemPool.{ProblemPool}
 use Rattle.amm_model.specs.declared.route.Hop.{Hop}
 use Rattle.amm_model.specs.declared.route.Leg.{Leg}
-use Rattle.amm_model.specs.declared.reply.Answer.{Answer}
+use Rattle.amm_model.specs.declared.route.OpenQuote.{OpenQuote}
+use Rattle.amm_model.specs.declared.pair.SwapReceipt.{SwapReceipt}
 use Rattle.amm_model.specs.Outcome.{Made}
 use Rattle.amm_model.specs.Ledger.{Ledger, balance, is_listed, pair_of}
 use Rattle.amm_model.specs.Legs.{leg_pool}
 use Rattle.amm_model.specs.Market.{IsPoolIn}
 use Rattle.amm_model.specs.CommandView.{Move}
+use Rattle.amm_model.specs.CycleRuns.{IsCycleGain}
+use Rattle.amm_model.specs.Cycles.{IsCycleTrade}
 use Rattle.amm_model.specs.Meaning.{meaning}
-use Rattle.amm_model.specs.Paths.{IsHop, Leads, hop_pool, hop_from, hop_gives, hop_places, gives}
+use Rattle.amm_model.specs.Paths.{IsHop, Leads, hop_pool, hop_from, hop_gives, hop_places, gives, legs_along}
 use Rattle.amm_model.specs.Routing.{no_pool, token0_of, token1_of}
 use Rattle.amm_model.specs.Settlement.{is_locked}
 use Rattle.amm_model.specs.Sound.{IsSound}
 use Rattle.amm_model.proofs.Names.{names_apart, same_name_itself}
-use Rattle.amm_legs.specs.Portions.{legs_along}
-use Rattle.amm_cycle.specs.CycleTrades.{IsCycleTrade}
 use Rattle.amm_settle.proofs.Trading.{IsAsKept}
 use Rattle.amm_settle.proofs.AllLegs.{AreSoundPools}
-use Rattle.amm_loans.specs.Loans.{AreLoansOf, AreReady, Gains}
+use Rattle.amm_loans.specs.Loans.{AreLoansOf, AreReady}
+use Rattle.amm_loans.proofs.OneLoan.{flash_made}
 use Rattle.amm_loans.proofs.Chain.{AreKept, AreListed, ChainDone, HasRun, IsNoPool, chain_done}
+
+-- The actor has so much more of t, and of all else what he had; and nobody but these pools had a
+-- part in it.
+pub record Gains (old new : Ledger) (actor : Name) (t : Name) (gain : ℕ) (pools : List ProblemPool) : Type 0 where
+  pub gets : balance new (assets.Token t) (holders.User actor) ≡ balance old (assets.Token t) (holders.User actor) + gain
+  pub keeps : (other : Asset) → other ≢ assets.Token t → balance new other (holders.User actor) ≡ balance old other (holders.User actor)
+  pub others : (any : Asset) (who : Holder) → who ≢ holders.User actor → All (λ (pool : ProblemPool). who ≢ holders.Pool pool.name) pools → balance new any who ≡ balance old any who
 
 -- The nested loans of legs were accepted, and brought their gain.
 pub record LoansDone (old : Ledger) (actor : Name) (pools : List ProblemPool) (t : Name) (legs : List Leg) (gain : ℕ) : Type 0 where
-  pub made : Made Answer
-  pub is : (step : Move) → AreLoansOf pools legs step → meaning old actor step ≡ Ok made
+  pub made : Made SwapReceipt
+  pub is : (step : Move) → AreLoansOf pools legs step → meaning old actor step ≡ Ok (flash_made made.ledger made.answer)
   pub gains : Gains old made.ledger actor t gain (map (leg_pool pools) legs)
 
 -- ---- the pools, hop by hop
@@ -118,9 +127,22 @@ module _ (pools : List ProblemPool) (sound : AreSoundPools pools) (actor t : Nam
       }
 
   -- The nested loans of a cycle bring its gain.
-  pub cycle_gains : (legs : List Leg) (gain : ℕ) → IsCycleTrade pools t legs gain → AreReady old pools legs → LoansDone old actor pools t legs gain
+  cycle_gains : (legs : List Leg) (gain : ℕ) → IsCycleTrade pools t legs gain → AreReady old pools legs → LoansDone old actor pools t legs gain
   cycle_gains legs gain cycle ready =
       let along = chain_gains cycle.hops cycle.x cycle.is_cycle.short.0 cycle.is_cycle.over cycle.is_cycle.different cycle.is_cycle.leads cycle.stands
       (subst (AreReady old pools) cycle.legs_of ready) in
       subst (λ (n : ℕ). LoansDone old actor pools t legs n) (sym cycle.gained)
       (subst (λ (ls : List Leg). LoansDone old actor pools t ls (gives pools cycle.hops cycle.x - cycle.x)) (sym cycle.legs_of) along)
+
+-- The nested loans of the cycle of a quote were accepted, and brought its profit.
+pub record QuoteDone (old : Ledger) (actor : Name) (quote : OpenQuote) : Type 0 where
+  pub made : Made SwapReceipt
+  pub is : (step : Move) → AreLoansOf quote.problem.pools quote.route.legs step → meaning old actor step ≡ Ok (flash_made made.ledger made.answer)
+  pub gains : IsCycleGain old made.ledger actor quote
+
+pub quote_gains : (old : Ledger) (actor : Name) (quote : OpenQuote) → IsSound old → AreSoundPools quote.problem.pools → IsCycleTrade quote.problem.pools quote.problem.t quote.route.legs quote.delivered
+    → AreReady old quote.problem.pools quote.route.legs → QuoteDone old actor quote
+quote_gains old actor quote sound_ledger sound cycle ready =
+    let done : LoansDone old actor quote.problem.pools quote.problem.t quote.route.legs quote.delivered =
+    cycle_gains quote.problem.pools sound actor quote.problem.t old sound_ledger quote.route.legs quote.delivered cycle ready in
+    record { made = done.made; is = done.is; gains = record { gets = done.gains.gets; keeps = done.gains.keeps; others = done.gains.others } }

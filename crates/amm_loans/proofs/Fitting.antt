@@ -7,13 +7,11 @@ use Rattle.amm_model.specs.declared.problem.ProblemPool.{ProblemPool}
 use Rattle.amm_model.specs.declared.route.Hop.{Hop}
 use Rattle.amm_model.specs.declared.route.Leg.{Leg}
 use Rattle.amm_model.specs.CommandView.{Move}
-use Rattle.amm_model.specs.Cycles.{nested_loans}
+use Rattle.amm_model.specs.Cycles.{IsCycleTrade, nested_loans}
 use Rattle.amm_model.specs.Fits.{FitsMove}
-use Rattle.amm_model.specs.Paths.{IsHop, hop_pool, hop_gives, gives}
+use Rattle.amm_model.specs.Paths.{IsHop, hop_pool, hop_gives, gives, leg_of_hop, legs_along}
 use Rattle.amm_model.specs.Routing.{OpenView, IsOpenProblem, no_pool}
 use Rattle.amm_model.proofs.Problems.{fee_of-is, tokens_differ}
-use Rattle.amm_legs.specs.Portions.{leg_of_hop, legs_along}
-use Rattle.amm_cycle.specs.CycleTrades.{IsCycleTrade}
 use Rattle.amm_settle.specs.Places.{AreThere}
 use Rattle.amm_settle.proofs.Trading.{IsSoundPool}
 use Rattle.amm_settle.proofs.AllLegs.{AreSoundPools}

@@ -1,8 +1,9 @@
 -- What a call that ran the loans of a cycle met.
-use Rattle.std.proofs.Common.{◌≡◌, ℕ, List, [], ◌∷◌, Result, Ok, Err, refl, sym, ◌∙◌, subst}
+use Rattle.std.proofs.Common.{◌≡◌, List, [], ◌∷◌, Result, Ok, Err, refl, sym, ◌∙◌, subst}
 use Rattle.amm_names.specs.Names.{Name}
 use Rattle.amm_model.specs.declared.problem.ProblemPool.{ProblemPool}
 use Rattle.amm_model.specs.declared.route.Leg.{Leg}
+use Rattle.amm_model.specs.declared.pair.SwapReceipt.{SwapReceipt}
 use Rattle.amm_model.specs.declared.reply.Answer.{Answer}
 use Rattle.amm_model.specs.declared.fault.Fault.{Fault}
 use Rattle.amm_model.specs.declared.fault.Fault.TheVariants as faults
@@ -10,17 +11,20 @@ use Rattle.amm_model.specs.declared.fault.Refusal.{Refusal}
 use Rattle.amm_model.specs.Outcome.{Made, Outcome}
 use Rattle.amm_model.specs.Ledger.{Ledger}
 use Rattle.amm_model.specs.CommandView.{Move}
+use Rattle.amm_model.specs.CycleRuns.{RunsNested}
+use Rattle.amm_model.specs.Cycles.{nested_loans}
 use Rattle.amm_model.specs.Meaning.{meaning}
 use Rattle.amm_state.specs.Tx.{TxView, Accepts, Meets}
 use Rattle.amm_settle.proofs.LegsPay.{not_both}
 use Rattle.amm_loans.specs.Loans.{AreLoansOf, run_loans}
+use Rattle.amm_loans.proofs.OneLoan.{flash_made}
 
 -- a step that is the loans of legs was accepted, so they were
-pub accepted : (old new : TxView) (actor : Name) (pools : List ProblemPool) (legs : List Leg) (gain : ℕ) (step : Move) (answer : Answer) → AreLoansOf pools legs step
-    → Accepts old new answer (meaning old.present actor step) → Accepts old new gain (run_loans old.present actor pools legs gain)
+pub accepted : (old new : TxView) (actor : Name) (pools : List ProblemPool) (legs : List Leg) (step : Move) (answer : Answer) → AreLoansOf pools legs step
+    → Accepts old new answer (meaning old.present actor step) → Accepts old new tt (run_loans old.present actor pools legs)
 unfolding run_loans
-accepted old new actor pools [] gain step answer is meets = absurd is
-accepted old new actor pools (first ∷ later) gain step answer is meets =
+accepted old new actor pools [] step answer is meets = absurd is
+accepted old new actor pools (first ∷ later) step answer is meets =
     let gives = subst (λ (m : Move). meaning old.present actor m ≡ Ok (record { ledger = new.present; answer = answer })) is meets.gives in
     record { gives = rw (gives) refl; opening = meets.opening; mark = meets.mark }
 
@@ -39,3 +43,16 @@ pub ledger_of : {A : Type 0} (P : Ledger → Type 0) (old new : TxView) (answer 
 ledger_of {A} P old new answer outcome made is holds meets =
     let same : made ≡ record { ledger = new.present; answer = answer } = (let both : ◌≡◌ {A = Outcome A} (Ok made) (Ok (record { ledger = new.present; answer = answer })) = sym is ∙ meets.gives in cc) in
     subst (λ (m : Made A). P m.ledger) same holds
+
+-- the loans of legs ran inside one another, and left the ledger after the call
+pub runs : (old new : TxView) (actor : Name) (pools : List ProblemPool) (legs : List Leg) (step : Move) (answer : Answer) (made : Made SwapReceipt) → AreLoansOf pools legs step
+    → meaning old.present actor step ≡ Ok (flash_made made.ledger made.answer) → Accepts old new answer (meaning old.present actor step) → RunsNested meaning old.present actor pools legs new.present
+runs old new actor pools [] step answer made is done meets = absurd is
+runs old new actor pools (first ∷ later) step answer made is done meets = record {
+  first = first;
+  later = later;
+  are = refl;
+  receipt = made.answer;
+  ran = ledger_of (λ (l : Ledger). meaning old.present actor (nested_loans pools first later) ≡ Ok (flash_made l made.answer)) old new answer (meaning old.present actor step)
+      (flash_made made.ledger made.answer) done (subst (λ (m : Move). meaning old.present actor m ≡ Ok (flash_made made.ledger made.answer)) is done) meets;
+}

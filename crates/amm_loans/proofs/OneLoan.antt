@@ -8,6 +8,7 @@ use Rattle.amm_names.specs.declared.holder.Holder.TheVariants as holders
 use Rattle.amm_names.specs.declared.holder.Asset.{Asset}
 use Rattle.amm_names.specs.declared.holder.Asset.TheVariants as assets
 use Rattle.amm_model.specs.declared.pair.PairRecord.{PairRecord}
+use Rattle.amm_model.specs.declared.pair.SwapReceipt.{SwapReceipt}
 use Rattle.amm_model.specs.declared.problem.ProblemPool.{ProblemPool}
 use Rattle.amm_model.specs.declared.reply.Answer.{Answer}
 use Rattle.amm_model.specs.declared.reply.Answer.TheVariants as answers
@@ -66,10 +67,14 @@ paid_tokens pool actor from x old new paid name =
 abbrev pub pays : (pool from : Name) (x : ℕ) → Moves
 pays pool from x = view.move (view.transfer (assets.Token from) (holders.Pool pool) x) view.no_moves
 
+-- What a loan that was returned is answered.
+abbrev pub flash_made : Ledger → SwapReceipt → Made Answer
+flash_made ledger receipt = record { ledger = ledger; answer = answers.Flash receipt }
+
 -- The loan is made, and returned after its payment.
 pub record LoanDone (old lent ran : Ledger) (pool : Name) (actor from : Name) (x out0 out1 : ℕ) : Type 0 where
-  pub made : Made Answer
-  pub is : (steps : Moves) → meaning_of_all lent actor steps ≡ meaning_of_all ran actor (pays pool from x) → meaning old actor (view.flash pool out0 out1 steps) ≡ Ok made
+  pub made : Made SwapReceipt
+  pub is : (steps : Moves) → meaning_of_all lent actor steps ≡ meaning_of_all ran actor (pays pool from x) → meaning old actor (view.flash pool out0 out1 steps) ≡ Ok (flash_made made.ledger made.answer)
   pub paid : IsPaid pool actor from x ran made.ledger
 
 module _ (ledger : Ledger) (pool : ProblemPool) (actor from to : Name) (x y out0 out1 b0 b1 : ℕ) (side : IsSide pool actor from to x y out0 out1 b0 b1)
@@ -118,7 +123,7 @@ module _ (ledger : Ledger) (pool : ProblemPool) (actor from to : Name) (x y out0
     pub loan_done : LoanDone ledger lent.value.ledger ran pool.name actor from x out0 out1
     unfolding meaning
     loan_done = record {
-      made = record { ledger = returned.value.ledger; answer = answers.Flash returned.value.answer };
+      made = returned.value;
       is = λ steps run. rw (lent.is, run, sends, returned.is) refl;
       paid = subst (IsPaid pool.name actor from x ran) (sym returned.after) record {
         less = payment.less;

@@ -1,10 +1,10 @@
--- Legs of a problem whose pools are as it says pay what they deliver, and no leg is refused.
-use Rattle.std.proofs.Common.{◌≡◌, ◌≢◌, ◌≤◌, ◌==◌, ◌&&◌, ◌||◌, ℕ, zero, suc, Bool, true, false, cond, List, [], ◌∷◌, map, Option, Some, None, Result, Ok, Err, get_or, refl, sym, ap, ◌∙◌, arith, subst}
+-- Legs of a quote whose pools are as its problem says pay what they deliver, and no leg is refused.
+use Rattle.std.proofs.Common.{◌≡◌, ◌≢◌, ◌≤◌, ◌+◌, ◌==◌, ◌&&◌, ◌||◌, ℕ, zero, suc, Bool, true, false, cond, List, [], ◌∷◌, map, Option, Some, None, Result, Ok, Err, get_or, refl, sym, ap, ◌∙◌, arith, subst}
 use Rattle.std.specs.Prelude.{All, AllPairs}
 use Rattle.std.specs.Str.{bytes_eq}
 use Rattle.std.proofs.lemmas.Bool.Decides.{nat_tests}
 use Rattle.std.proofs.lemmas.Slice.Eq.{bytes_eq-Decides}
-use Rattle.std.proofs.lemmas.List.Elements.{All-tail}
+use Rattle.std.proofs.lemmas.List.Elements.{All-contains, All-tail}
 use Rattle.amm_names.specs.Names.{Name}
 use Rattle.amm_names.specs.declared.holder.Holder.{Holder}
 use Rattle.amm_names.specs.declared.holder.Holder.TheVariants as holders
@@ -14,6 +14,7 @@ use Rattle.amm_model.specs.declared.pair.PairRecord.{PairRecord}
 use Rattle.amm_model.specs.declared.problem.Part.{Part}
 use Rattle.amm_model.specs.declared.problem.ProblemPool.{ProblemPool}
 use Rattle.amm_model.specs.declared.route.Leg.{Leg}
+use Rattle.amm_model.specs.declared.route.OpenQuote.{OpenQuote}
 use Rattle.amm_model.specs.declared.fault.Fault.{Fault}
 use Rattle.amm_model.specs.declared.fault.Fault.TheVariants as faults
 use Rattle.amm_model.specs.declared.fault.Refusal.{Refusal}
@@ -22,13 +23,14 @@ use Rattle.amm_model.specs.Ledger.{Ledger, balance, pair_of}
 use Rattle.amm_model.specs.Pools.{held0, held1}
 use Rattle.amm_model.specs.Routing.{IsBefore, IsOpenProblem, OpenView, amount_given, given_by_parts, no_pool}
 use Rattle.amm_model.specs.Legs.{Inventory, AreLegs, Delivers, leg_pool, after_leg}
+use Rattle.amm_model.specs.Sales.{IsSold}
 use Rattle.amm_model.specs.Settlement.{is_locked, is_as_kept, any_locked, all_as_kept, perform_legs}
 use Rattle.amm_model.proofs.Guards.{same_answer}
 use Rattle.amm_model.proofs.Names.{same_name_itself}
 use Rattle.amm_model.proofs.Problems.{before-apart, fee_of-is, none_given, tokens_differ}
 use Rattle.amm_state.specs.Tx.{TxView, Meets}
 use Rattle.amm_settle.specs.Places.{AreThere}
-use Rattle.amm_settle.specs.Plans.{HasParts, IsPaidAsPlanned, pools_of_plan}
+use Rattle.amm_settle.specs.Sales.{HasParts, pools_of_quote}
 use Rattle.amm_settle.proofs.Trading.{IsAsKept}
 use Rattle.amm_settle.proofs.AllLegs.{AreAsKept, AreSoundPools, IsNoPoolOf, LegsDone, legs_done}
 
@@ -123,40 +125,43 @@ refused_so old new (Ok x) outcome met why is = cc
 refused_so old new (Err (faults.Refused other)) outcome met why is = met.gives ∙ ap Err (let e : other ≡ why = cc in e)
 refused_so old new (Err faults.Memory) outcome met why is = cc
 
--- one that failed, where its definition has no code, wanted memory
-pub no_code : {A B : Type 0} (old new : TxView) (fault : Fault) (outcome : Outcome A) → Meets old new (Err fault) outcome → ((why : Refusal) → outcome ≡ Err why → ⊥)
-    → (why : Refusal) → (◌≡◌ {A = Result B Fault} (Err fault) (Err (faults.Refused why))) → ⊥
-no_code old new (faults.Refused other) outcome met never why is = never other met.gives
-no_code old new faults.Memory outcome met never why is = cc
-
 -- ---- the payment
 
--- Legs of a problem were performed and paid.
-pub record PlanDone (old : Ledger) (actor : Name) (problem : OpenView) (legs : List Leg) (delivered : ℕ) : Type 0 where
+-- The legs of a quote were performed and paid.
+pub record SaleDone (old : Ledger) (actor : Name) (quote : OpenQuote) : Type 0 where
   pub ledger : Ledger
-  pub is : perform_legs old actor problem.pools legs ≡ ledger_only ledger
-  pub paid : IsPaidAsPlanned old ledger actor problem legs delivered
+  pub is : perform_legs old actor quote.problem.pools quote.route.legs ≡ ledger_only ledger
+  pub sold : IsSold old ledger actor quote
 
-module _ (old : Ledger) (actor : Name) (problem : OpenView) (legs : List Leg) (delivered : ℕ) (sound : IsOpenProblem problem) (delivers : Delivers problem legs delivered)
-    (free : any_locked old (pools_of_plan problem legs) ≡ false) (kept : all_as_kept old (pools_of_plan problem legs) ≡ true) (funds : HasParts old actor problem.parts) where
+module _ (old : Ledger) (actor : Name) (quote : OpenQuote) (sound : IsOpenProblem quote.problem) (delivers : Delivers quote.problem quote.route.legs quote.delivered)
+    (free : any_locked old (pools_of_quote quote) ≡ false) (kept : all_as_kept old (pools_of_quote quote) ≡ true) (funds : HasParts old actor quote.problem.parts) where
+  abbrev problem : OpenView
+  problem = quote.problem
+
+  abbrev legs : List Leg
+  legs = quote.route.legs
+
   abbrev have : Ledger → Name → ℕ
   have ledger y = balance ledger (assets.Token y) (holders.User actor)
 
-  pub legs_pay : PlanDone old actor problem legs delivered
+  pub legs_pay : SaleDone old actor quote
   legs_pay =
       let done = legs_done problem.pools (sound_pools problem sound) legs [] (amount_given problem) actor old delivers.0
       (all_kept old problem.pools legs free kept) (given_funded problem.parts (have old) funds) in
       record {
         ledger = done.ledger;
         is = done.is;
-        paid = record {
+        sold = record {
           gets = omega (arith, done.tokens problem.t, none_given problem.parts problem.t sound.parts.apart, delivers.1);
-          pays = λ k d below. omega (arith, done.tokens (get_or problem.parts k d).token, given_of_each problem.parts sound.parts.rising k d below);
+          pays = λ part is_part. All-contains (λ (p : Part). have old p.token ≤ have done.ledger p.token + p.amount) problem.parts part (pays done) is_part;
           keeps = keeps done;
           others = λ any who user none. done.others any who user (no_pool_of who problem.pools legs none);
         };
       }
     where
+      pays : (done : LegsDone old actor problem.pools (amount_given problem) legs) → All (λ (p : Part). have old p.token ≤ have done.ledger p.token + p.amount) problem.parts
+      pays done k d below = omega (arith, done.tokens (get_or problem.parts k d).token, given_of_each problem.parts sound.parts.rising k d below)
+
       keeps : (done : LegsDone old actor problem.pools (amount_given problem) legs) → (other : Asset) → All (λ (part : Part). other ≢ assets.Token part.token) problem.parts
           → balance old other (holders.User actor) ≤ balance done.ledger other (holders.User actor)
       keeps done (assets.Token y) apart =
@@ -167,7 +172,7 @@ module _ (old : Ledger) (actor : Name) (problem : OpenView) (legs : List Leg) (d
   pub legs_not_refused : (why : Refusal) → perform_legs old actor problem.pools legs ≡ Err why → ⊥
   legs_not_refused why is = not_both _ why (sym legs_pay.is ∙ is)
 
-  pub legs_paid : (made : Made (Unit {0})) → perform_legs old actor problem.pools legs ≡ Ok made → IsPaidAsPlanned old made.ledger actor problem legs delivered
-  legs_paid made is =
+  pub legs_sold : (made : Made (Unit {0})) → perform_legs old actor problem.pools legs ≡ Ok made → IsSold old made.ledger actor quote
+  legs_sold made is =
       let e = same_answer (record { ledger = legs_pay.ledger; answer = tt }) made (sym legs_pay.is ∙ is) in
-      subst (λ (l : Ledger). IsPaidAsPlanned old l actor problem legs delivered) (ap (λ (m : Made (Unit {0})). m.ledger) e) legs_pay.paid
+      subst (λ (l : Ledger). IsSold old l actor quote) (ap (λ (m : Made (Unit {0})). m.ledger) e) legs_pay.sold

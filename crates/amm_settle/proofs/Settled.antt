@@ -8,6 +8,7 @@ use Rattle.amm_names.specs.Names.{Name}
 use Rattle.amm_names.specs.declared.holder.Holder.TheVariants as holders
 use Rattle.amm_names.specs.declared.holder.Asset.TheVariants as assets
 use Rattle.amm_model.specs.declared.problem.Part.{Part}
+use Rattle.amm_model.specs.declared.route.OpenQuote.{OpenQuote}
 use Rattle.amm_model.specs.declared.route.Quote.{Quote}
 use Rattle.amm_model.specs.declared.fault.Refusal.{Refusal}
 use Rattle.amm_model.specs.declared.fault.Refusal.TheVariants as code
@@ -24,6 +25,10 @@ of_one : (P : Part → Type 0) (part : Part) → P part → All P (part ∷ [])
 of_one P part has zero d below = has
 of_one P part has (suc k) d below = absurd (omega arith)
 
+-- the quote as one of a problem with the one part
+abbrev open_quote : Quote → OpenQuote
+open_quote quote = record { problem = open_view quote.problem; prices = quote.prices; route = quote.route; delivered = quote.delivered; bound = quote.bound }
+
 -- A quote was settled.
 pub record SettleDone (old : Ledger) (actor : Name) (quote : Quote) : Type 0 where
   pub ledger : Ledger
@@ -35,16 +40,16 @@ pub quote_pays : (old : Ledger) (actor : Name) (quote : Quote) → IsProblem quo
     → all_as_kept old (pools_of_legs quote) ≡ true → nat_lt (balance old (assets.Token quote.problem.s) (holders.User actor)) quote.problem.d ≡ false → SettleDone old actor quote
 quote_pays old actor quote sound delivers free kept funded =
     let funds : quote.problem.d ≤ balance old (assets.Token quote.problem.s) (holders.User actor) = grind (arith, nat_tests) in
-    let done = legs_pay old actor (open_view quote.problem) quote.route.legs quote.delivered sound delivers free kept
+    let done = legs_pay old actor (open_quote quote) sound delivers free kept
     (of_one (λ (part : Part). part.amount ≤ balance old (assets.Token part.token) (holders.User actor)) (record { token = quote.problem.s; amount = quote.problem.d }) funds) in
     record {
       ledger = done.ledger;
       is = done.is;
       paid = record {
-        gets = done.paid.gets;
-        pays = done.paid.pays 0 (record { token = quote.problem.s; amount = quote.problem.d }) (omega arith);
-        keeps = λ other apart. done.paid.keeps other (of_one (λ (part : Part). other ≢ assets.Token part.token) (record { token = quote.problem.s; amount = quote.problem.d }) apart);
-        others = done.paid.others;
+        gets = done.sold.gets;
+        pays = done.sold.pays (record { token = quote.problem.s; amount = quote.problem.d }) (0, omega arith, refl);
+        keeps = λ other apart. done.sold.keeps other (of_one (λ (part : Part). other ≢ assets.Token part.token) (record { token = quote.problem.s; amount = quote.problem.d }) apart);
+        others = done.sold.others;
       };
     }
 

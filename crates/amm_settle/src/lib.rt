@@ -5,9 +5,9 @@
 //! order: where the pools of its legs are as they were quoted, no pool refuses a leg, and he has
 //! exactly what the quote delivers.
 //!
-//! `perform` takes a user through the legs of a problem of any parts, which he has (`has_parts`).
-//! Its caller knows that no pool of the legs is lent and that each is as the problem says, so that
-//! it is refused by no code.
+//! `perform` takes a user through the legs of a quote of any parts, which he has (`has_parts`). Its
+//! caller knows that no pool of the legs is lent and that each is as the problem says, so that it
+//! is refused by no code.
 #![tactic(auto)]
 
 mod as_quoted;

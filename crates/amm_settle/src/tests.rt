@@ -6,7 +6,7 @@ ghost use Rattle.amm_model.specs.Sound.{IsSound, IsAtRest};
 ghost use Rattle.amm_state.specs.declared.mark.Mark.{Mark};
 
 mod market;
-mod plans;
+mod sales;
 
 use crate::settle;
 use amm_model::{Asset, Fault, Holder, PoolName, Quote, Refusal};

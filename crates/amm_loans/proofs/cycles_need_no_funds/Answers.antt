@@ -1,8 +1,9 @@
-use Rattle.amm_loans.proofs.Cycled.{LoansDone, cycle_gains}
+use Rattle.amm_loans.proofs.Cycled.{QuoteDone, quote_gains}
 use Rattle.amm_loans.proofs.Fitting.{problem_pools}
+use Rattle.amm_loans.proofs.OneLoan.{flash_made}
 use Rattle.amm_loans.proofs.cycles_need_no_funds.Goals as goal
 
 pub returns : goal.returns
-returns c ledger actor problem legs gain step sound is_problem cycle ready is =
-    let done : LoansDone ledger actor problem.pools problem.t legs gain = cycle_gains problem.pools (problem_pools problem is_problem) actor problem.t ledger sound legs gain cycle ready in
-    (done.made, done.is step is, done.gains)
+returns c ledger actor quote step sound is_problem cycle ready is =
+    let done : QuoteDone ledger actor quote = quote_gains ledger actor quote sound (problem_pools quote.problem is_problem) cycle ready in
+    (flash_made done.made.ledger done.made.answer, done.is step is, done.gains)

@@ -1,6 +1,5 @@
 use Rattle.std.proofs.Common.{◌≡◌, ◌<◌, ◌^◌, take}
-use Rattle.amm_model.specs.Paths.{gives}
-use Rattle.amm_legs.specs.Portions.{legs_along}
+use Rattle.amm_model.specs.Paths.{gives, legs_along}
 use Rattle.amm_cycle.proofs.legs.legs_of.Given as goal
 
 abbrev pub invariant-loop-k : goal.invariant-loop-k

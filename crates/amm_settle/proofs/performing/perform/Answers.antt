@@ -1,29 +1,25 @@
-use Rattle.std.proofs.Common.{◌≡◌, List, Ok, Err, sym, subst}
-use Rattle.std.proofs.lemmas.Result.{err_from_is_err_and}
-use Rattle.amm_model.specs.declared.problem.ProblemPool.{ProblemPool}
-use Rattle.amm_model.specs.Settlement.{perform_legs}
-use Rattle.amm_state.specs.Tx.{Meets}
-use Rattle.amm_settle.specs.Places.{AreThere}
-use Rattle.amm_settle.proofs.LegsPay.{legs_there, legs_paid, legs_not_refused, no_code}
+use Rattle.amm_model.specs.Ledger.{Ledger}
+use Rattle.amm_model.specs.Sales.{IsSold}
+use Rattle.amm_state.proofs.Meets.{on_ok}
+use Rattle.amm_settle.proofs.LegsPay.{legs_there, legs_sold, legs_not_refused, refused_so}
 use Rattle.amm_settle.proofs.performing.perform.Goals as goal
 
 pub perform_legs-requires-clause-there : goal.perform_legs-requires-clause-there
 perform_legs-requires-clause-there c =
-    subst (λ (pools : List ProblemPool). AreThere pools c.args.legs.now) (sym c.pools-pools.ensures.list)
-    (legs_there c.args.problem.now.pools _ _ c.args.legs.now c.requires.delivers.0)
+    rw (c.pools-pools.ensures.list, c.as_slice-legs.ensures) (legs_there c.args.quote.now.problem.pools _ _ c.args.quote.now.route.legs c.requires.delivers.0)
 
-pub returns-in_err-perform_legs-clause-codes : goal.returns-in_err-perform_legs-clause-codes
-returns-in_err-perform_legs-clause-codes c =
-    let p = err_from_is_err_and c.from_residual.result c.from_residual.ensures.1 in
-    rw (p.1, p.2) (no_code c.args.tx.now c.perform_legs.new.tx c.in_err-perform_legs.field-0.0 (perform_legs c.args.tx.now.present c.args.actor.now c.args.problem.now.pools c.args.legs.now)
-    (subst (λ (pools : List ProblemPool). Meets c.args.tx.now c.perform_legs.new.tx (Err c.in_err-perform_legs.field-0.0) (perform_legs c.args.tx.now.present c.args.actor.now pools c.args.legs.now))
-    c.pools-pools.ensures.list c.in_err-perform_legs.ensures.meets)
-    (legs_not_refused c.args.tx.now.present c.args.actor.now c.args.problem.now c.args.legs.now c.args.delivered c.pools-pools.ensures.sound
-    c.requires.delivers c.requires.free c.requires.kept c.requires.parts))
+pub returns-clause-meets : goal.returns-clause-meets
+returns-clause-meets c = rw (c.pools-pools.ensures.list, c.as_slice-legs.ensures) at c.perform_legs.ensures.meets
 
-pub returns-clause-paid : goal.returns-clause-paid
-returns-clause-paid c =
-    legs_paid c.args.tx.now.present c.args.actor.now c.args.problem.now c.args.legs.now c.args.delivered c.pools-pools.ensures.sound
-    c.requires.delivers c.requires.free c.requires.kept c.requires.parts (record { ledger = c.perform_legs.new.tx.present; answer = tt })
-    (subst (λ (pools : List ProblemPool). perform_legs c.args.tx.now.present c.args.actor.now pools c.args.legs.now ≡ Ok (record { ledger = c.perform_legs.new.tx.present; answer = tt }))
-    c.pools-pools.ensures.list c.in_ok-perform_legs.ensures.meets.gives)
+pub returns-clause-sold : goal.returns-clause-sold
+returns-clause-sold c =
+    on_ok (λ (l : Ledger). IsSold c.args.tx.now.present l c.args.actor.now c.args.quote.now) _ _ _ _
+    (rw (c.pools-pools.ensures.list, c.as_slice-legs.ensures) at c.perform_legs.ensures.meets)
+    (λ made is. legs_sold c.args.tx.now.present c.args.actor.now c.args.quote.now c.pools-pools.ensures.sound
+    c.requires.delivers c.requires.free c.requires.kept c.requires.parts made is)
+
+pub returns-clause-codes : goal.returns-clause-codes
+returns-clause-codes c why is =
+    legs_not_refused c.args.tx.now.present c.args.actor.now c.args.quote.now c.pools-pools.ensures.sound
+    c.requires.delivers c.requires.free c.requires.kept c.requires.parts why
+    (refused_so _ _ _ _ (rw (c.pools-pools.ensures.list, c.as_slice-legs.ensures) at c.perform_legs.ensures.meets) why is)

@@ -1,16 +1,20 @@
-//! Plans of two parts, DAI and ETH for USD, over a pool of 1000000 of each and as many USD.
-ghost use Rattle.std.specs.Prelude.{◌≡◌, IsTrue, OnOk, false, true};
+//! Sales of two parts, DAI and ETH for USD, over a pool of 1000000 of each and as many USD.
+ghost use Rattle.std.specs.Prelude.{◌≡◌, IfSome, IsTrue, OnOk, false, true};
+ghost use Rattle.amm_model.specs.Legs.{Delivers};
 ghost use Rattle.amm_model.specs.Settlement.{all_as_kept, any_locked};
 ghost use Rattle.amm_model.specs.Sound.{IsAtRest};
 ghost use Rattle.amm_state.specs.declared.mark.Mark.{Mark};
 ghost use Rattle.amm_settle.specs.Places.{AreThere};
-ghost use Rattle.amm_settle.specs.Plans.{HasParts, pools_of_plan};
+ghost use Rattle.amm_settle.specs.Sales.{HasParts, pools_of_quote};
 
 use super::market::{Names, Pools, give, open_pool, read_names};
 use crate::as_quoted::{all_as_kept, any_locked};
 use crate::{has_parts, perform};
 use amm_legs::open_legs_delivered;
-use amm_model::{Asset, Fault, Holder, Leg, OpenProblem, Part, PoolName, ProblemPool, UserName};
+use amm_model::{
+    Asset, Fault, Holder, Leg, LegList, OpenProblem, OpenQuote, Part, PoolName, Prices,
+    ProblemPool, Route, UserName,
+};
 use amm_state::{Book, State, Tx};
 use std::alloc::Global;
 use std::test::Fail;
@@ -70,37 +74,53 @@ fn sale(pool: u32, input: u64, output: u64) -> Leg {
     }
 }
 
-fn is_ready(book: &Book, actor: &UserName, problem: &OpenProblem, legs: &[Leg]) -> bool
-    requires there { AreThere problem.now.pools legs.now }
-    ensures free { IsTrue result → any_locked book.now.ledger (pools_of_plan problem.now legs.now) ≡ false }
-    ensures kept { IsTrue result → all_as_kept book.now.ledger (pools_of_plan problem.now legs.now) ≡ true }
-    ensures parts { IsTrue result → HasParts book.now.ledger actor.now problem.now.parts }
+// The legs as a quote, whose prices and bound say nothing. None where they are no route.
+fn quoted(alloc: Global, problem: OpenProblem, legs: &[Leg]) -> Option<OpenQuote>
+    ensures { IfSome result (λ quote. Delivers quote.problem quote.route.legs quote.delivered) }
 {
-    let pools = problem.pools();
-    !any_locked(book, pools, legs)
-        && all_as_kept(book, pools, legs)
-        && has_parts(book, actor, problem.parts())
+    let delivered = open_legs_delivered(&problem, legs)?;
+    let prices = Prices::from_parts(Vec::new(alloc))?;
+    let list = Vec::from_slice(alloc, legs).ok()?;
+    Some(OpenQuote {
+        problem,
+        prices,
+        route: Route {
+            legs: LegList::from_vec(list),
+        },
+        delivered,
+        bound: 0,
+    })
 }
 
-// None where the legs are no plan, or cannot be performed.
+fn is_ready(book: &Book, actor: &UserName, quote: &OpenQuote) -> bool
+    requires there { AreThere quote.now.problem.pools quote.now.route.legs }
+    ensures free { IsTrue result → any_locked book.now.ledger (pools_of_quote quote.now) ≡ false }
+    ensures kept { IsTrue result → all_as_kept book.now.ledger (pools_of_quote quote.now) ≡ true }
+    ensures parts { IsTrue result → HasParts book.now.ledger actor.now quote.now.problem.parts }
+{
+    let pools = quote.problem.pools();
+    let legs = quote.route.legs.as_slice();
+    !any_locked(book, pools, legs)
+        && all_as_kept(book, pools, legs)
+        && has_parts(book, actor, quote.problem.parts())
+}
+
+// None where the legs cannot be performed.
 fn performed(
     alloc: Global,
     tx: &mut Tx,
     actor: &UserName,
-    problem: &OpenProblem,
-    legs: &[Leg],
+    quote: &OpenQuote,
 ) -> Result<Option<u64>, Fault>
     requires clean { tx.old.mark ≡ Mark.Clean }
     requires rest { IsAtRest tx.old.present }
+    requires delivers { Delivers quote.now.problem quote.now.route.legs quote.now.delivered }
 {
-    let Some(delivered) = open_legs_delivered(problem, legs) else {
-        return Ok(None);
-    };
-    if !is_ready(tx.book(), actor, problem, legs) {
+    if !is_ready(tx.book(), actor, quote) {
         return Ok(None);
     }
-    let answer = perform(alloc, tx, actor, problem, legs, delivered)?;
-    Ok(Some(answer))
+    perform(alloc, tx, actor, quote)?;
+    Ok(Some(quote.delivered))
 }
 
 // The answer, and how much DAI, ETH and USD alice has then.
@@ -121,7 +141,11 @@ fn ending(alloc: Global, dai: u64, legs: &[Leg]) -> Result<Ending, Fail> {
             return Err(fail);
         }
     };
-    let answer = performed(alloc, &mut tx, &names.alice, &problem, legs);
+    let Some(quote) = quoted(alloc, problem, legs) else {
+        let _ = tx.rollback();
+        return Err("no quote")?;
+    };
+    let answer = performed(alloc, &mut tx, &names.alice, &quote);
     let alice = Holder::User(names.alice);
     let dai = tx.book().balance(&Asset::Token(names.dai), &alice);
     let eth = tx.book().balance(&Asset::Token(names.eth), &alice);
