@@ -7,13 +7,21 @@ use Rattle.amm_model.specs.declared.line.Line.TheVariants.{Blank, Whole, Long}
 use Rattle.amm_model.specs.declared.reply.Answer.{Answer}
 use Rattle.amm_model.specs.declared.reply.Answer.TheVariants as answers
 use Rattle.amm_model.specs.declared.reply.Reply.{Reply}
+use Rattle.amm_model.specs.declared.problem.Part.{Part}
+use Rattle.amm_model.specs.declared.problem.ProblemPool.{ProblemPool}
+use Rattle.amm_model.specs.declared.route.Leg.{Leg}
+use Rattle.amm_model.specs.declared.route.OpenQuote.{OpenQuote}
 use Rattle.amm_model.specs.declared.route.Quote.{Quote}
-use Rattle.amm_model.specs.Outcome.{Outcome}
+use Rattle.amm_model.specs.Outcome.{Made, Outcome}
 use Rattle.amm_model.specs.Ledger.{Ledger, with_quote}
 use Rattle.amm_model.specs.Splits.{Routes, may_split}
 use Rattle.amm_model.specs.CommandView as command
 use Rattle.amm_model.specs.CommandView.{CommandView}
-use Rattle.amm_model.specs.Meaning.{MayComeTo}
+use Rattle.amm_model.specs.CycleRuns.{Cycles, RunsNested, may_cycle}
+use Rattle.amm_model.specs.Meaning.{MayComeTo, meaning}
+use Rattle.amm_model.specs.Sales.{Sells, may_sell}
+use Rattle.amm_model.specs.Settlement.{perform_legs}
+use Rattle.amm_model.proofs.Guards.{same_answer}
 use Rattle.amm_model.specs.Answers.{ComesTo, answer_of, ledger_after}
 use Rattle.amm_model.specs.Reading.{command_of_line}
 use Rattle.amm_model.specs.Runs.{RunBy, Step, one_reply}
@@ -35,11 +43,60 @@ split_fixes old s t d (Ok ok) (Ok a) (Err why) p q same = absurd (no_refusal _ _
 split_fixes old s t d (Ok ok) (Err why) (Ok b) p q same = absurd (no_refusal _ _ why (sym q.told ∙ sym same))
 split_fixes old s t d (Ok ok) (Err why) (Err other) p q same = refl
 
+-- two outcomes of a basket: the quote that is told fixes what is performed
+same_basket : (x y : OpenQuote) → answers.Basket x ≡ answers.Basket y → x ≡ y
+same_basket x y e = cc
+
+no_basket : (x : OpenQuote) (why : Refusal) → answers.Basket x ≢ answers.Refused why
+no_basket x why e = cc
+
+basket_fixes : (old : Ledger) (actor : List ℕ) (parts : List Part) (t : List ℕ) (min : ℕ) (may : Result (Unit {0}) Refusal) (a b : Outcome Answer)
+    → MatchResult may (λ _. Sells old actor parts t min a) (λ why. a ≡ Err why) → MatchResult may (λ _. Sells old actor parts t min b) (λ why. b ≡ Err why)
+    → answer_of a ≡ answer_of b → ledger_after old a ≡ ledger_after old b
+basket_fixes old actor parts t min (Err why) a b p q same = ap (ledger_after old) (p ∙ sym q)
+basket_fixes old actor parts t min (Ok ok) (Ok a) (Ok b) p q same =
+    let quotes = same_basket p.quote q.quote (sym p.told ∙ same ∙ q.told) in
+    let first : Made (Unit {0}) = record { ledger = a.ledger; answer = tt } in
+    let second : Made (Unit {0}) = record { ledger = b.ledger; answer = tt } in
+    ap (λ (m : Made (Unit {0})). m.ledger) (same_answer first second (sym p.performed ∙ ap (λ (quote : OpenQuote). perform_legs old actor quote.problem.pools quote.route.legs) quotes ∙ q.performed))
+basket_fixes old actor parts t min (Ok ok) (Ok a) (Err why) p q same = absurd (no_basket _ why (sym p.told ∙ same))
+basket_fixes old actor parts t min (Ok ok) (Err why) (Ok b) p q same = absurd (no_basket _ why (sym q.told ∙ sym same))
+basket_fixes old actor parts t min (Ok ok) (Err why) (Err other) p q same = refl
+
+-- two outcomes of a cycle: the legs that are told fix the loans
+same_cycle : (x y : OpenQuote) → answers.Cycle x ≡ answers.Cycle y → x ≡ y
+same_cycle x y e = cc
+
+no_cycle : (x : OpenQuote) (why : Refusal) → answers.Cycle x ≢ answers.Refused why
+no_cycle x why e = cc
+
+loans_fix : (old : Ledger) (actor : List ℕ) (pools : List ProblemPool) (legs : List Leg) (a b : Ledger) → RunsNested meaning old actor pools legs a → RunsNested meaning old actor pools legs b → a ≡ b
+loans_fix old actor pools legs a b p q =
+    let both : p.first ∷ p.later ≡ q.first ∷ q.later = sym p.are ∙ q.are in
+    let first : p.first ≡ q.first = cc in
+    let later : p.later ≡ q.later = cc in
+    let ran = rw (first, later) at p.ran in
+    ap (λ (m : Made Answer). m.ledger) (same_answer _ _ (sym ran ∙ q.ran))
+
+cycle_fixes : (old : Ledger) (actor t : List ℕ) (may : Result (Unit {0}) Refusal) (a b : Outcome Answer)
+    → MatchResult may (λ _. Cycles meaning old actor t a) (λ why. a ≡ Err why) → MatchResult may (λ _. Cycles meaning old actor t b) (λ why. b ≡ Err why)
+    → answer_of a ≡ answer_of b → ledger_after old a ≡ ledger_after old b
+cycle_fixes old actor t (Err why) a b p q same = ap (ledger_after old) (p ∙ sym q)
+cycle_fixes old actor t (Ok ok) (Ok a) (Ok b) p q same =
+    let quotes = same_cycle p.quote q.quote (sym p.told ∙ same ∙ q.told) in
+    loans_fix old actor q.quote.problem.pools q.quote.route.legs a.ledger b.ledger
+    (subst (λ (quote : OpenQuote). RunsNested meaning old actor quote.problem.pools quote.route.legs a.ledger) quotes p.run) q.run
+cycle_fixes old actor t (Ok ok) (Ok a) (Err why) p q same = absurd (no_cycle _ why (sym p.told ∙ same))
+cycle_fixes old actor t (Ok ok) (Err why) (Ok b) p q same = absurd (no_cycle _ why (sym q.told ∙ sym same))
+cycle_fixes old actor t (Ok ok) (Err why) (Err other) p q same = refl
+
 -- two outcomes of a command
 command_fixes : (old : Ledger) (asked : CommandView) (a b : Outcome Answer) → MayComeTo old asked a → MayComeTo old asked b → answer_of a ≡ answer_of b
     → ledger_after old a ≡ ledger_after old b
 unfolding MayComeTo
 command_fixes old (command.split s t d) a b p q same = split_fixes old s t d (may_split old s t d) a b p q same
+command_fixes old (command.basket actor parts t min deadline) a b p q same = basket_fixes old actor parts t min (may_sell old actor parts t deadline) a b p q same
+command_fixes old (command.cycle actor t deadline) a b p q same = cycle_fixes old actor t (may_cycle old t deadline) a b p q same
 command_fixes old (command.deposit user token n) a b p q same = ap (ledger_after old) (sym p ∙ q)
 command_fixes old (command.withdraw user token n) a b p q same = ap (ledger_after old) (sym p ∙ q)
 command_fixes old (command.time n) a b p q same = ap (ledger_after old) (sym p ∙ q)

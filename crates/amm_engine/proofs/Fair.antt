@@ -27,7 +27,7 @@ use Rattle.amm_model.specs.CommandView.{CommandView}
 use Rattle.amm_model.specs.Meaning.{MayComeTo, known_asset, deposit, withdraw, query, pool_answer, outcome_with, observe_answer}
 use Rattle.amm_model.specs.Answers.{ComesTo, answer_of, ledger_after}
 use Rattle.amm_model.specs.Reading.{command_of_line}
-use Rattle.amm_model.specs.Runs.{FairStep, IsUnbeaten, OfCommand, SettledBy, Step, one_reply, TotalsMoved, TotalsMovedBy}
+use Rattle.amm_model.specs.Runs.{FairStep, IsUnbeaten, OfCommand, SettledBy, Step, TradedBy, one_reply, TotalsMoved, TotalsMovedBy}
 use Rattle.amm_bound.proofs.Law.{no_route_beats_bound}
 use Rattle.amm_model.proofs.Certifiable.{split_writable}
 use Rattle.amm_model.proofs.Guards.{given, same_answer, was_some}
@@ -41,6 +41,7 @@ use Rattle.amm_script.proofs.Laws.{step_kept}
 use Rattle.amm_script.proofs.Settlements.{quote_has}
 use Rattle.amm_engine.proofs.KeptQuotes.{rest_with, room_for_quote}
 use Rattle.amm_engine.proofs.Settling.{settled}
+use Rattle.amm_engine.proofs.Trades.{Trades, basket_trades, cycle_trades}
 use Rattle.amm_engine.proofs.Told.{IsAccepted, step_told}
 
 -- What holds after a command that was accepted.
@@ -154,6 +155,16 @@ observe_promised old actor p made rest is =
       told = record { accepted = λ why e. cc; written = tt; unbeaten = tt };
     })
 
+-- what a basket and a cycle leave
+trade_promised : (asked : CommandView) (old : Ledger) (made : Made Answer) → IsAtRest old → (TokenTotalsKept old made.ledger → TotalsMoved asked made.answer old made.ledger)
+    → Trades asked old made.ledger made.answer → Promised asked old made.ledger made.answer
+trade_promised asked old made rest totals trades = record {
+  rest = kept_rest old made.ledger trades.kept rest;
+  zero = trades.kept.zero;
+  totals = totals trades.kept.later.totals;
+  told = trades.told;
+}
+
 -- what every accepted command promises
 pub promised : (old : Ledger) (asked : CommandView) (made : Made Answer) → Fits asked → IsAtRest old → MayComeTo old asked (Ok made) → Promised asked old made.ledger made.answer
 unfolding MayComeTo
@@ -188,6 +199,10 @@ promised old (command.consult first second token n) made fits rest is =
 promised old (command.window p seconds) made fits rest is =
     asked_only (command.window p seconds) old (window old p seconds) answers.Window made rest
     (λ x token. refl) (λ x was. record { accepted = λ why e. cc; written = tt; unbeaten = tt }) is
+promised old (command.basket actor parts t min deadline) made fits rest is =
+    trade_promised (command.basket actor parts t min deadline) old made rest (λ same. same) (basket_trades old actor parts t min deadline made rest is)
+promised old (command.cycle actor t deadline) made fits rest is =
+    trade_promised (command.cycle actor t deadline) old made rest (λ same. same) (cycle_trades old actor t deadline made rest is)
 promised old (command.act actor step) made fits rest is =
     let kept = step_kept step old actor made fits.0 fits.1 is in record {
       rest = kept_rest old made.ledger kept rest;
@@ -205,6 +220,31 @@ promised old (command.split s t d) made fits rest is = split_promised old s t d 
 promised old (command.certificate number) made fits rest is =
     asked_only (command.certificate number) old (ok_or (quote_of old.quotes number) code.NoQuote) answers.Certificate made rest
     (λ x token. refl) (λ quote was. certificate_accepted old number quote rest was) is
+
+-- what every accepted basket and cycle pays
+traded : (old : Ledger) (asked : CommandView) (outcome : Outcome Answer) → IsAtRest old → MayComeTo old asked outcome → TradedBy asked (answer_of outcome) old (ledger_after old outcome)
+unfolding MayComeTo
+traded old (command.basket actor parts t min deadline) (Ok made) rest is = (basket_trades old actor parts t min deadline made rest is).traded
+traded old (command.basket actor parts t min deadline) (Err why) rest is = tt
+traded old (command.cycle actor t deadline) (Ok made) rest is = (cycle_trades old actor t deadline made rest is).traded
+traded old (command.cycle actor t deadline) (Err why) rest is = tt
+traded old (command.deposit user token n) outcome rest is = tt
+traded old (command.withdraw user token n) outcome rest is = tt
+traded old (command.time n) outcome rest is = tt
+traded old (command.fee_to actor to) outcome rest is = tt
+traded old (command.setter actor to) outcome rest is = tt
+traded old (command.quote_out path n) outcome rest is = tt
+traded old (command.quote_in path n) outcome rest is = tt
+traded old (command.split s t d) outcome rest is = tt
+traded old (command.certificate number) outcome rest is = tt
+traded old (command.pool p) outcome rest is = tt
+traded old (command.balance asset holder) outcome rest is = tt
+traded old (command.total asset) outcome rest is = tt
+traded old (command.observe actor p) outcome rest is = tt
+traded old (command.average first second) outcome rest is = tt
+traded old (command.consult first second token n) outcome rest is = tt
+traded old (command.window p seconds) outcome rest is = tt
+traded old (command.act actor step) outcome rest is = tt
 
 -- ---- lines
 
@@ -224,6 +264,8 @@ refused_totals (command.observe actor p) why old = λ name. refl
 refused_totals (command.average first second) why old = λ name. refl
 refused_totals (command.consult first second token n) why old = λ name. refl
 refused_totals (command.window p seconds) why old = λ name. refl
+refused_totals (command.basket actor parts t min deadline) why old = λ name. refl
+refused_totals (command.cycle actor t deadline) why old = λ name. refl
 refused_totals (command.act actor step) why old = λ name. refl
 refused_totals (command.fee_to actor to) why old = λ name. refl
 refused_totals (command.setter actor to) why old = λ name. refl
@@ -240,6 +282,7 @@ record Sides (old : Ledger) (read : Result CommandView Refusal) (outcome : Outco
   zero : ZeroKept old (ledger_after old outcome)
   totals : MatchResult read (λ asked. TotalsMoved asked (answer_of outcome) old (ledger_after old outcome)) (λ _. TokenTotalsKept old (ledger_after old outcome))
   settled : MatchResult read (λ asked. SettledBy asked (answer_of outcome) old (ledger_after old outcome)) (λ _. Unit {0})
+  traded : MatchResult read (λ asked. TradedBy asked (answer_of outcome) old (ledger_after old outcome)) (λ _. Unit {0})
   unbeaten : IsUnbeaten (answer_of outcome)
 
 -- the command of a line was tried
@@ -251,6 +294,7 @@ asked_sides old asked (Ok made) fits rest comes =
       zero = k.zero;
       totals = k.totals;
       settled = settled old asked (Ok made) rest comes;
+      traded = traded old asked (Ok made) rest comes;
       unbeaten = k.told.unbeaten;
     }
 asked_sides old asked (Err why) fits rest comes = record {
@@ -259,6 +303,7 @@ asked_sides old asked (Err why) fits rest comes = record {
   zero = λ q. omega arith;
   totals = refused_totals asked why old;
   settled = settled old asked (Err why) rest comes;
+  traded = traded old asked (Err why) rest comes;
   unbeaten = tt;
 }
 
@@ -277,6 +322,8 @@ fair_by old number bytes read outcome read_is comes sides =
           (subst (λ (r : Result CommandView Refusal). MatchResult r (λ asked. TotalsMoved asked (answer_of outcome) old new) (λ _. TokenTotalsKept old new)) back sides.totals);
       settled = λ other one. subst (λ (a : Answer). OfCommand (Whole bytes) (λ asked. SettledBy asked a old new)) (only_answer _ _ _ _ one)
           (subst (λ (r : Result CommandView Refusal). MatchResult r (λ asked. SettledBy asked (answer_of outcome) old new) (λ _. Unit {0})) back sides.settled);
+      traded = λ other one. subst (λ (a : Answer). OfCommand (Whole bytes) (λ asked. TradedBy asked a old new)) (only_answer _ _ _ _ one)
+          (subst (λ (r : Result CommandView Refusal). MatchResult r (λ asked. TradedBy asked (answer_of outcome) old new) (λ _. Unit {0})) back sides.traded);
       unbeaten = λ other one. subst IsUnbeaten (only_answer _ _ _ _ one) sides.unbeaten;
     }
 
@@ -285,7 +332,7 @@ pub fair_unread : (old : Ledger) (number : ℕ) (bytes : List ℕ) (why : Refusa
     → FairStep old number (Whole bytes) (one_reply number (answers.Refused why)) old
 fair_unread old number bytes why rest is =
     fair_by old number bytes (Err why) (Err why) is refl
-    (record { rest = rest; refused = λ other refusal. refl; zero = λ q. omega arith; totals = λ name. refl; settled = tt; unbeaten = tt })
+    (record { rest = rest; refused = λ other refusal. refl; zero = λ q. omega arith; totals = λ name. refl; settled = tt; traded = tt; unbeaten = tt })
 
 -- a line whose bytes are a command is a fair step
 pub fair_asked : (old : Ledger) (number : ℕ) (bytes : List ℕ) (asked : CommandView) (outcome : Outcome Answer) → IsAtRest old → command_of_line bytes ≡ Ok asked
@@ -303,5 +350,6 @@ fair_long old number rest = record {
   zero = λ q. omega arith;
   totals = λ other one name. refl;
   settled = λ other one. tt;
+  traded = λ other one. tt;
   unbeaten = λ other one. subst IsUnbeaten (only_answer _ _ _ _ one) tt;
 }

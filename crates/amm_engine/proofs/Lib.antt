@@ -2,6 +2,10 @@ pub mod Parts
 pub mod KeptQuotes
 pub mod Told
 pub mod Settling
+pub mod Selling
+pub mod Cycling
+pub mod Written
+pub mod Trades
 pub mod Fair
 pub mod Doing
 pub mod Splitting

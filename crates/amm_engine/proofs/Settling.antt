@@ -104,3 +104,5 @@ settled old (command.observe actor p) outcome rest comes = tt
 settled old (command.average first second) outcome rest comes = tt
 settled old (command.consult first second token n) outcome rest comes = tt
 settled old (command.window p seconds) outcome rest comes = tt
+settled old (command.basket actor parts t min deadline) outcome rest comes = tt
+settled old (command.cycle actor t deadline) outcome rest comes = tt

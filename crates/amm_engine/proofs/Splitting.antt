@@ -16,7 +16,7 @@ use Rattle.amm_model.specs.Market.{IsProblemIn}
 use Rattle.amm_model.specs.Meaning.{MayComeTo, as_answer}
 use Rattle.amm_model.specs.Outcome.{Made, Outcome}
 use Rattle.amm_model.specs.Postings.{add_quote}
-use Rattle.amm_model.specs.SplitAnswers.{IsSplitAnswer}
+use Rattle.amm_model.specs.SplitAnswers.{HasNoRoute, IsSplitAnswer}
 use Rattle.amm_model.specs.Splits.{IsUnroutable, Routes, may_split}
 use Rattle.amm_state.specs.Tx.{TxView, Meets, mark_of}
 use Rattle.amm_state.specs.declared.mark.Mark.TheVariants as marks
@@ -40,13 +40,13 @@ module _ (old : Ledger) (s t : List ℕ) (d : ℕ) where
   split_unroutable why may none = routed (Err why) may none
 
   -- a quote is kept
-  pub split_kept : (quote : Quote) → may_split old s t d ≡ Ok tt → IsProblemIn old s t d quote.problem → IsSplitAnswer quote
+  pub split_kept : (quote : Quote) → may_split old s t d ≡ Ok tt → IsProblemIn old s t d quote.problem → (HasNoRoute quote.problem → ⊥) → IsSplitAnswer quote
       → MayComeTo old (command.split s t d) (as_answer (λ number. answers.Split number quote) (add_quote old quote))
-  split_kept quote may problem split =
+  split_kept quote may problem some split =
       let room = room_for_quote old s t d tt may in
       let free : nat_le QUOTE_LIMIT (length old.quotes) ≡ false = grind (arith, nat_tests) in
       let made : Made Answer = record { ledger = with_quote old quote; answer = answers.Split (length old.quotes + 1) quote } in
-      rw free (routed (Ok made) may (record { quote = quote; problem = problem; split = split; kept = refl; told = refl }))
+      rw free (routed (Ok made) may (record { quote = quote; problem = problem; some = some; split = split; kept = refl; told = refl }))
 
 module _ (old new : TxView) (s t : List ℕ) (d : ℕ) (ledger : Ledger) (same : ledger ≡ old.present) where
   abbrev asked : CommandView
@@ -75,7 +75,7 @@ module _ (old new : TxView) (s t : List ℕ) (d : ℕ) (ledger : Ledger) (same :
       by faults.Memory none = record { opening = refl; mark = refl }
 
   -- a call that found one
-  pub does_split : (quote : Quote) (result : Result Answer Fault) → may_split ledger s t d ≡ Ok tt → IsProblemIn ledger s t d quote.problem → IsSplitAnswer quote
+  pub does_split : (quote : Quote) (result : Result Answer Fault) → may_split ledger s t d ≡ Ok tt → IsProblemIn ledger s t d quote.problem → (HasNoRoute quote.problem → ⊥) → IsSplitAnswer quote
       → Meets old new result (as_answer (λ number. answers.Split number quote) (add_quote old.present quote)) → DoesCommand old new asked result
-  does_split quote result may problem split meets =
-      does old new asked result _ (subst (λ (l : Ledger). MayComeTo l asked (as_answer (λ number. answers.Split number quote) (add_quote l quote))) same (split_kept ledger s t d quote may problem split)) meets
+  does_split quote result may problem some split meets =
+      does old new asked result _ (subst (λ (l : Ledger). MayComeTo l asked (as_answer (λ number. answers.Split number quote) (add_quote l quote))) same (split_kept ledger s t d quote may problem some split)) meets

@@ -32,6 +32,7 @@ AnswersLine-blank old number text rest is =
         zero = λ q. omega arith;
         totals = λ answer one name. refl;
         settled = λ answer one. tt;
+        traded = λ answer one. tt;
         unbeaten = λ answer one. cc;
       };
       is = is;

@@ -10,6 +10,8 @@ ghost use Rattle.amm_model.specs.declared.reply.Answer.TheVariants as answers;
 ghost use Rattle.amm_state.specs.Tx.{Meets};
 ghost use Rattle.amm_engine.specs.Commands.{DoesCommand};
 
+use crate::basket::basket;
+use crate::cycle::cycle;
 use crate::oracle::{average, consult, observe, window};
 use crate::queries::{balance, certificate, pool_record, quote_in, quote_out, total};
 use crate::split::split;
@@ -47,6 +49,14 @@ pub(crate) fn perform(alloc: Global, tx: &mut Tx, command: &Command) -> Result<A
             n,
         } => consult(tx, *first, *second, token, *n),
         Command::Window { pool, seconds } => window(tx, pool, *seconds),
+        Command::Basket {
+            actor,
+            parts,
+            t,
+            min,
+            deadline,
+        } => basket(alloc, tx, actor, parts, t, *min, *deadline),
+        Command::Cycle { actor, t, deadline } => cycle(alloc, tx, actor, t, *deadline),
         Command::Act { actor, step } => run_step(alloc, tx, actor, step),
     }
 }

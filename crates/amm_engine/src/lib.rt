@@ -4,6 +4,8 @@
 //! what was written is the replies to its first lines.
 #![tactic(auto)]
 
+mod basket;
+mod cycle;
 mod dispatch;
 mod engine;
 mod laws;

@@ -5,7 +5,7 @@ ghost use Rattle.amm_model.specs.Market.{IsProblemIn};
 ghost use Rattle.amm_model.specs.Meaning.{as_answer};
 ghost use Rattle.amm_model.specs.Postings.{add_quote};
 ghost use Rattle.amm_model.specs.Sound.{IsAtRest};
-ghost use Rattle.amm_model.specs.SplitAnswers.{IsSplitAnswer};
+ghost use Rattle.amm_model.specs.SplitAnswers.{HasNoRoute, IsSplitAnswer};
 ghost use Rattle.amm_model.specs.Splits.{IsUnroutable, may_split};
 ghost use Rattle.amm_model.specs.declared.fault.Fault.TheVariants.{Refused};
 ghost use Rattle.amm_model.specs.declared.fault.Refusal.{Refusal as Code};
@@ -68,7 +68,7 @@ fn may_split(book: &Book, s: &TokenName, t: &TokenName, d: u64) -> Result<(), Re
 
 /// A quote that answers the split over the pools of the book.
 ///
-/// Refused: NO_ROUTE, where nothing can be routed.
+/// Refused: NO_ROUTE, exactly where nothing can be routed.
 fn quote_for(
     alloc: Global,
     book: &Book,
@@ -80,6 +80,7 @@ fn quote_for(
     requires may { may_split book.now.ledger s.now t.now d ≡ Ok tt }
     requires amount { d ≤ AMOUNT_LIMIT }
     ensures problem { IfOk result (λ quote. IsProblemIn book.now.ledger s.now t.now d quote.problem) }
+    ensures some { IfOk result (λ quote. ¬ HasNoRoute quote.problem) }
     ensures answers { IfOk result (λ quote. IsSplitAnswer quote) }
     ensures refused { (why : Code) → result ≡ Err (Refused why) → (why ≡ code.NoRoute) × IsUnroutable book.now.ledger s.now t.now d }
 {

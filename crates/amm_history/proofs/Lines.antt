@@ -10,6 +10,7 @@ use Rattle.amm_names.specs.declared.holder.Holder.TheVariants as holders
 use Rattle.amm_names.specs.declared.holder.Asset.TheVariants as assets
 use Rattle.amm_model.specs.declared.pair.PairRecord.{PairRecord}
 use Rattle.amm_model.specs.declared.observation.Observation.{Observation}
+use Rattle.amm_model.specs.declared.problem.Part.{Part}
 use Rattle.amm_model.specs.declared.fault.Refusal.{Refusal}
 use Rattle.amm_model.specs.declared.fault.Refusal.TheVariants as code
 use Rattle.amm_model.specs.declared.limits.TheConstants.{TOKEN_LIMIT, OBSERVATION_LIMIT}
@@ -24,13 +25,16 @@ use Rattle.amm_model.specs.Postings.{list_token, issue, retire, set_time}
 use Rattle.amm_model.specs.Operations.{sync}
 use Rattle.amm_model.specs.Factory.{set_fee_to, set_setter}
 use Rattle.amm_model.specs.Router.{amounts_out, amounts_in}
+use Rattle.amm_model.specs.CycleRuns.{Cycles, may_cycle}
+use Rattle.amm_model.specs.Cycles.{nested_loans}
+use Rattle.amm_model.specs.Sales.{Sells, may_sell}
 use Rattle.amm_model.specs.Splits.{Routes, may_split}
 use Rattle.amm_model.specs.Pools.{same_name}
 use Rattle.amm_model.specs.Observations.{observation_of}
 use Rattle.amm_model.specs.Oracle.{add_observation, observe, average, consult, window}
 use Rattle.amm_model.specs.CommandView as command
 use Rattle.amm_model.specs.CommandView.{CommandView}
-use Rattle.amm_model.specs.Meaning.{MayComeTo, known_asset, deposit, withdraw, query, pool_answer, outcome_with, observe_answer}
+use Rattle.amm_model.specs.Meaning.{MayComeTo, known_asset, deposit, withdraw, meaning, query, pool_answer, outcome_with, observe_answer}
 use Rattle.amm_model.specs.Answers.{ComesTo, ledger_after}
 use Rattle.amm_model.specs.Reading.{command_of_line}
 use Rattle.amm_model.specs.Runs.{Step}
@@ -39,7 +43,7 @@ use Rattle.amm_model.proofs.Names.{some_there, one_value, pair_of-set_here}
 use Rattle.amm_model.proofs.PlainSound.{issue_added, one_more}
 use Rattle.amm_model.proofs.Transfers.{retire_taken}
 use Rattle.amm_history.proofs.Drifting.{Drifted, Drifts, drifts_same, drifts_then, drifts_pairs, drifts_rest, sync_at, sync_drifts}
-use Rattle.amm_history.proofs.Moves.{step_drifts}
+use Rattle.amm_history.proofs.Moves.{legs_drifts, step_drifts}
 
 -- the time is the same, and the pairs read the same
 pub record Stands (old new : Ledger) : Type 0 where
@@ -260,6 +264,19 @@ split_onward : (old : Ledger) (s t : Name) (d : ℕ) (made : Made Answer) (may :
 split_onward old s t d made (Ok ok) comes = subst (Onward old) (sym comes.kept) (onward_drifts old (with_quote old comes.quote) (drifts_pairs old (with_quote old comes.quote) refl refl refl))
 split_onward old s t d made (Err why) comes = cc
 
+basket_onward : (old : Ledger) (actor : Name) (parts : List Part) (t : Name) (min : ℕ) (made : Made Answer) (may : Result (Unit {0}) Refusal)
+    → MatchResult may (λ _. Sells old actor parts t min (Ok made)) (λ why. Ok made ≡ Err why) → Onward old made.ledger
+basket_onward old actor parts t min made (Ok ok) comes =
+    onward_drifts old made.ledger (legs_drifts comes.quote.route.legs old actor comes.quote.problem.pools (record { ledger = made.ledger; answer = tt }) comes.performed)
+basket_onward old actor parts t min made (Err why) comes = cc
+
+cycle_onward : (old : Ledger) (actor t : Name) (made : Made Answer) (may : Result (Unit {0}) Refusal)
+    → MatchResult may (λ _. Cycles meaning old actor t (Ok made)) (λ why. Ok made ≡ Err why) → Onward old made.ledger
+cycle_onward old actor t made (Ok ok) comes =
+    let run = comes.run in
+    onward_drifts old made.ledger (step_drifts (nested_loans comes.quote.problem.pools run.first run.later) old actor (record { ledger = made.ledger; answer = answers.Flash run.receipt }) run.ran)
+cycle_onward old actor t made (Err why) comes = cc
+
 -- every accepted command
 pub command_onward : (old : Ledger) (asked : CommandView) (made : Made Answer) → MayComeTo old asked (Ok made) → Onward old made.ledger
 unfolding MayComeTo
@@ -279,6 +296,8 @@ command_onward old (command.observe actor name) made is = observe_onward old nam
 command_onward old (command.average first second) made is = asked_only old answers.Average (average old first second) made is
 command_onward old (command.consult first second token n) made is = asked_only old answers.Consult (consult old first second token n) made is
 command_onward old (command.window name seconds) made is = asked_only old answers.Window (window old name seconds) made is
+command_onward old (command.basket actor parts t min deadline) made is = basket_onward old actor parts t min made (may_sell old actor parts t deadline) is
+command_onward old (command.cycle actor t deadline) made is = cycle_onward old actor t made (may_cycle old t deadline) is
 command_onward old (command.act actor step) made is = onward_drifts old made.ledger (step_drifts step old actor made is)
 
 outcome_onward : (old : Ledger) (read : Result CommandView Refusal) (outcome : Outcome Answer) → MatchResult read (λ asked. MayComeTo old asked outcome) (λ why. outcome ≡ Err why)

@@ -147,7 +147,7 @@ leg_drifts l actor pools leg made is =
     (transfer_drifts l (assets.Token (token_in pools leg)) (holders.User actor) (holders.Pool pool) leg.input paid.value paid.was)
     (swap_drifts paid.value.ledger pool out0 out1 (holders.User actor) swapped.value swapped.was))
 
-legs_drifts : (legs : List Leg) (l : Ledger) (actor : List ℕ) (pools : List ProblemPool) (made : Made (Unit {0})) → perform_legs l actor pools legs ≡ Ok made → Drifts l made.ledger
+pub legs_drifts : (legs : List Leg) (l : Ledger) (actor : List ℕ) (pools : List ProblemPool) (made : Made (Unit {0})) → perform_legs l actor pools legs ≡ Ok made → Drifts l made.ledger
 unfolding perform_legs
 legs_drifts [] l actor pools made is = nothing l made is
 legs_drifts (leg ∷ legs) l actor pools made is =

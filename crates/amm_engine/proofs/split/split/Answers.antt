@@ -14,7 +14,7 @@ pub returns-in-Ok : goal.returns-in-Ok
 returns-in-Ok c =
     let may : may_split c.book-2.result.now.ledger c.args.s.now c.args.t.now c.args.d ≡ Ok tt =
     subst (λ (l : Ledger). may_split l c.args.s.now c.args.t.now c.args.d ≡ Ok tt) (c.book.ensures ∙ sym c.book-2.ensures) (sym c.in_default.ensures) in
-    record { does = does_split _ _ _ _ _ _ c.book-2.ensures c.in-Ok.quote _ may c.in-Ok.ensures.problem c.in-Ok.ensures.answers c.keep.ensures }
+    record { does = does_split _ _ _ _ _ _ c.book-2.ensures c.in-Ok.quote _ may c.in-Ok.ensures.problem c.in-Ok.ensures.some c.in-Ok.ensures.answers c.keep.ensures }
 
 pub returns-in-Err-quote_for : goal.returns-in-Err-quote_for
 returns-in-Err-quote_for c =
