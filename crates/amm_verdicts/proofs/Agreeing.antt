@@ -14,7 +14,6 @@ use Rattle.amm_model.specs.declared.limits.TheConstants.{QUOTE_LIMIT, OBSERVATIO
 use Rattle.amm_model.specs.declared.reply.Answer.{Answer}
 use Rattle.amm_model.specs.declared.reply.Answer.TheVariants as answers
 use Rattle.amm_model.specs.declared.route.Quote.{Quote}
-use Rattle.amm_model.specs.Answers.{answer_of}
 use Rattle.amm_model.specs.CommandView as command
 use Rattle.amm_model.specs.CommandView.{CommandView}
 use Rattle.amm_model.specs.Factory.{set_fee_to, set_setter}
@@ -28,7 +27,8 @@ use Rattle.amm_model.specs.Router.{amounts_in, amounts_out}
 use Rattle.amm_model.specs.SplitAnswers.{HasNoRoute}
 use Rattle.amm_model.specs.Splits.{Routes, may_split}
 use Rattle.amm_model.proofs.Guards.{same_answer}
-use Rattle.amm_verdicts.specs.Verdicts.{CommandSettlesNone, refusal_in}
+use Rattle.amm_verdicts.specs.NoRoute.{TakesNoRoute}
+use Rattle.amm_verdicts.specs.Verdicts.{refusal_in}
 use Rattle.amm_verdicts.proofs.OneMarket.{one_market}
 use Rattle.amm_verdicts.proofs.Requoted.{fee_to_same, issue_same, list_same, made_with, outcome_having, retire_same, setter_same, sync_same, then_made, then_same, time_same, with_quotes}
 use Rattle.amm_verdicts.proofs.Router.{both_then, in_same, out_same}
@@ -44,10 +44,6 @@ abbrev pub Agree : Outcome Answer → Outcome Answer → Type 0
 Agree (Ok one) (Ok two) = Alike one.ledger two.ledger × (refusal_in one.answer ≡ refusal_in two.answer)
 Agree (Err why) (Err other) = why ≡ other
 Agree _ _ = ⊥
-
--- a split that is accepted has a route
-abbrev pub IsRouted : Outcome Answer → Type 0
-IsRouted outcome = (kept : ℕ) (quote : Quote) → answer_of outcome ≡ answers.Split kept quote → HasNoRoute quote.problem → ⊥
 
 -- ---- commands that are functions
 
@@ -139,56 +135,58 @@ module _ (l : Ledger) (quotes : List Quote) (many : length quotes ≡ length l.q
 
   split_agrees : (s t : Name) (d : ℕ) (may : Result (Unit {0}) Refusal) (first second : Outcome Answer)
       → MatchResult may (λ _. Routes l s t d first) (λ why. first ≡ Err why) → MatchResult may (λ _. Routes (with_quotes l quotes) s t d second) (λ why. second ≡ Err why)
-      → IsRouted first → IsRouted second → Agree first second
-  split_agrees s t d (Err why) first second one two routed other = subst (λ o. Agree o second) (sym one) (subst (Agree (Err why)) (sym two) refl)
-  split_agrees s t d (Ok may) (Ok first) (Ok second) one two routed other = (
+      → Agree first second
+  split_agrees s t d (Err why) first second one two = subst (λ o. Agree o second) (sym one) (subst (Agree (Err why)) (sym two) refl)
+  split_agrees s t d (Ok may) (Ok first) (Ok second) one two = (
     subst (λ (k : Ledger). Alike k second.ledger) (sym one.kept) (subst (Alike (with_quote l one.quote)) (sym two.kept) (both_keep one.quote two.quote)),
     ap refusal_in one.told ∙ sym (ap refusal_in two.told),
   )
-  split_agrees s t d (Ok may) (Ok first) (Err why) one two routed other =
-      absurd (routed _ one.quote one.told (subst HasNoRoute (sym (one_market l quotes s t d one.quote.problem two.1.problem one.problem two.1.is)) two.1.none))
-  split_agrees s t d (Ok may) (Err why) (Ok second) one two routed other =
-      absurd (other _ two.quote two.told (subst HasNoRoute (one_market l quotes s t d one.1.problem two.quote.problem one.1.is two.problem) one.1.none))
-  split_agrees s t d (Ok may) (Err why) (Err second) one two routed other = one.0 ∙ sym two.0
+  split_agrees s t d (Ok may) (Ok first) (Err why) one two =
+      absurd (one.some (subst HasNoRoute (sym (one_market l quotes s t d one.quote.problem two.1.problem one.problem two.1.is)) two.1.none))
+  split_agrees s t d (Ok may) (Err why) (Ok second) one two =
+      absurd (two.some (subst HasNoRoute (one_market l quotes s t d one.1.problem two.quote.problem one.1.is two.problem) one.1.none))
+  split_agrees s t d (Ok may) (Err why) (Err second) one two = one.0 ∙ sym two.0
 
   -- ---- commands
 
-  pub command_agrees : (asked : CommandView) (first second : Outcome Answer) → CommandSettlesNone asked → MayComeTo l asked first → MayComeTo (with_quotes l quotes) asked second
-      → IsRouted first → IsRouted second → Agree first second
+  pub command_agrees : (asked : CommandView) (first second : Outcome Answer) → TakesNoRoute asked → MayComeTo l asked first → MayComeTo (with_quotes l quotes) asked second
+      → Agree first second
   unfolding MayComeTo
-  command_agrees (command.deposit user token n) first second none one two routed other = by_function (λ k. deposit k user token n) first second (λ qs. deposit_same qs l user token n) one two
-  command_agrees (command.withdraw user token n) first second none one two routed other = by_function (λ k. withdraw k user token n) first second (λ qs. withdraw_same qs l user token n) one two
-  command_agrees (command.time n) first second none one two routed other =
+  command_agrees (command.deposit user token n) first second none one two = by_function (λ k. deposit k user token n) first second (λ qs. deposit_same qs l user token n) one two
+  command_agrees (command.withdraw user token n) first second none one two = by_function (λ k. withdraw k user token n) first second (λ qs. withdraw_same qs l user token n) one two
+  command_agrees (command.time n) first second none one two =
       by_function (λ k. outcome_with answers.Time (set_time k n)) first second (λ qs. told_with qs answers.Time (set_time l n) _ (time_same qs l n)) one two
-  command_agrees (command.fee_to actor to) first second none one two routed other =
+  command_agrees (command.fee_to actor to) first second none one two =
       by_function (λ k. outcome_with answers.FeeTo (set_fee_to k actor to)) first second (λ qs. told_with qs answers.FeeTo (set_fee_to l actor to) _ (fee_to_same qs l actor to)) one two
-  command_agrees (command.setter actor to) first second none one two routed other =
+  command_agrees (command.setter actor to) first second none one two =
       by_function (λ k. outcome_with answers.Setter (set_setter k actor to)) first second (λ qs. told_with qs answers.Setter (set_setter l actor to) _ (setter_same qs l actor to)) one two
-  command_agrees (command.quote_out path n) first second none one two routed other =
+  command_agrees (command.quote_out path n) first second none one two =
       by_function (λ k. query k answers.QuoteOut (amounts_out k path n)) first second (λ qs. found_same qs l answers.QuoteOut (amounts_out l path n) _ (out_same qs l path n)) one two
-  command_agrees (command.quote_in path n) first second none one two routed other =
+  command_agrees (command.quote_in path n) first second none one two =
       by_function (λ k. query k answers.QuoteIn (amounts_in k path n)) first second (λ qs. found_same qs l answers.QuoteIn (amounts_in l path n) _ (in_same qs l path n)) one two
-  command_agrees (command.split s t d) first second none one two routed other =
+  command_agrees (command.split s t d) first second none one two =
       split_agrees s t d (may_split l s t d) first second one
-      (subst (λ may. MatchResult may (λ _. Routes (with_quotes l quotes) s t d second) (λ why. second ≡ Err why)) (may_same s t d) two) routed other
-  command_agrees (command.certificate number) first second none one two routed other =
+      (subst (λ may. MatchResult may (λ _. Routes (with_quotes l quotes) s t d second) (λ why. second ≡ Err why)) (may_same s t d) two)
+  command_agrees (command.certificate number) first second none one two =
       subst (λ o. Agree o second) one (subst (Agree (query l answers.Certificate (ok_or (quote_of l.quotes number) code.NoQuote))) two
       (told_both (quote_of l.quotes number) (quote_of quotes number) (both_found number)))
-  command_agrees (command.pool pool) first second none one two routed other =
+  command_agrees (command.pool pool) first second none one two =
       by_function (λ k. query k (pool_answer k pool) (ok_or (pair_of k.pairs pool) code.NoPair)) first second
       (λ qs. found_same qs l (pool_answer l pool) (ok_or (pair_of l.pairs pool) code.NoPair) _ refl) one two
-  command_agrees (command.balance asset holder) first second none one two routed other =
+  command_agrees (command.balance asset holder) first second none one two =
       by_function (λ k. query k (λ _. answers.Balance (balance k asset holder)) (known_asset k asset)) first second
       (λ qs. found_same qs l (λ _. answers.Balance (balance l asset holder)) (known_asset l asset) _ (known_same qs l asset)) one two
-  command_agrees (command.total asset) first second none one two routed other =
+  command_agrees (command.total asset) first second none one two =
       by_function (λ k. query k (λ _. answers.Total (total k asset)) (known_asset k asset)) first second
       (λ qs. found_same qs l (λ _. answers.Total (total l asset)) (known_asset l asset) _ (known_same qs l asset)) one two
-  command_agrees (command.observe actor pool) first second none one two routed other = by_function (λ k. observe_answer (observe k pool)) first second (λ qs. observed_same qs l pool) one two
-  command_agrees (command.average i j) first second none one two routed other =
+  command_agrees (command.observe actor pool) first second none one two = by_function (λ k. observe_answer (observe k pool)) first second (λ qs. observed_same qs l pool) one two
+  command_agrees (command.average i j) first second none one two =
       by_function (λ k. query k answers.Average (average k i j)) first second (λ qs. found_same qs l answers.Average (average l i j) _ (average_same qs l i j)) one two
-  command_agrees (command.consult i j token n) first second none one two routed other =
+  command_agrees (command.consult i j token n) first second none one two =
       by_function (λ k. query k answers.Consult (consult k i j token n)) first second (λ qs. found_same qs l answers.Consult (consult l i j token n) _ (consult_same qs l i j token n)) one two
-  command_agrees (command.window pool seconds) first second none one two routed other =
+  command_agrees (command.window pool seconds) first second none one two =
       by_function (λ k. query k answers.Window (window k pool seconds)) first second (λ qs. found_same qs l answers.Window (window l pool seconds) _ (window_same qs l pool seconds)) one two
-  command_agrees (command.act actor step) first second none one two routed other =
+  command_agrees (command.basket actor parts t min deadline) first second none one two = absurd none
+  command_agrees (command.cycle actor t deadline) first second none one two = absurd none
+  command_agrees (command.act actor step) first second none one two =
       by_function (λ k. meaning k actor step) first second (λ qs. step_same qs step l actor none) one two

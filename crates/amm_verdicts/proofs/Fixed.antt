@@ -8,33 +8,31 @@ use Rattle.amm_model.specs.declared.fault.Refusal.{Refusal}
 use Rattle.amm_model.specs.declared.line.Line.{Line}
 use Rattle.amm_model.specs.declared.line.Line.TheVariants.{Blank, Whole, Long}
 use Rattle.amm_model.specs.declared.reply.Answer.{Answer}
-use Rattle.amm_model.specs.declared.reply.Answer.TheVariants as answers
 use Rattle.amm_model.specs.declared.reply.Reply.{Reply}
-use Rattle.amm_model.specs.declared.route.Quote.{Quote}
 use Rattle.amm_model.specs.Answers.{ComesTo, answer_of, ledger_after}
 use Rattle.amm_model.specs.CommandView.{CommandView}
 use Rattle.amm_model.specs.Ledger.{Ledger}
 use Rattle.amm_model.specs.Meaning.{MayComeTo}
 use Rattle.amm_model.specs.Outcome.{Outcome}
 use Rattle.amm_model.specs.Reading.{command_of_line}
-use Rattle.amm_model.specs.Runs.{Step, one_reply}
-use Rattle.amm_model.specs.SplitAnswers.{HasNoRoute}
-use Rattle.amm_verdicts.specs.Verdicts.{CommandSettlesNone, LineSettlesNone, RoutedRun, accepted_in, refusal_in, refused_in, verdict_of, verdicts_of}
-use Rattle.amm_verdicts.proofs.Agreeing.{Agree, Alike, IsRouted, command_agrees}
+use Rattle.amm_model.specs.Runs.{Run, Step, one_reply}
+use Rattle.amm_verdicts.specs.NoRoute.{LineTakesNoRoute, TakesNoRoute}
+use Rattle.amm_verdicts.specs.Verdicts.{accepted_in, refusal_in, refused_in, verdict_of, verdicts_of}
+use Rattle.amm_verdicts.proofs.Agreeing.{Agree, Alike, command_agrees}
 
 -- ---- a line
 
-line_agrees : (old other : Ledger) (line : Line) (first second : Outcome Answer) → Alike old other → LineSettlesNone line → ComesTo old line first → ComesTo other line second
-    → IsRouted first → IsRouted second → Agree first second
+line_agrees : (old other : Ledger) (line : Line) (first second : Outcome Answer) → Alike old other → LineTakesNoRoute line → ComesTo old line first → ComesTo other line second
+    → Agree first second
 unfolding ComesTo
-line_agrees old other Blank first second alike none one two routed more = absurd one
-line_agrees old other Long first second alike none one two routed more = subst (λ o. Agree o second) (sym one) (subst (Agree (Err _)) (sym two) refl)
-line_agrees old other (Whole bytes) first second alike none one two routed more = by (command_of_line bytes) none one two
+line_agrees old other Blank first second alike none one two = absurd one
+line_agrees old other Long first second alike none one two = subst (λ o. Agree o second) (sym one) (subst (Agree (Err _)) (sym two) refl)
+line_agrees old other (Whole bytes) first second alike none one two = by (command_of_line bytes) none one two
   where
-    by : (read : Result CommandView Refusal) → MatchResult read CommandSettlesNone (λ _. Unit {0}) → MatchResult read (λ asked. MayComeTo old asked first) (λ why. first ≡ Err why)
+    by : (read : Result CommandView Refusal) → MatchResult read TakesNoRoute (λ _. Unit {0}) → MatchResult read (λ asked. MayComeTo old asked first) (λ why. first ≡ Err why)
         → MatchResult read (λ asked. MayComeTo other asked second) (λ why. second ≡ Err why) → Agree first second
     by (Ok asked) none one two =
-        command_agrees old other.quotes alike.as_many asked first second none one (subst (λ (l : Ledger). MayComeTo l asked second) (sym alike.same) two) routed more
+        command_agrees old other.quotes alike.as_many asked first second none one (subst (λ (l : Ledger). MayComeTo l asked second) (sym alike.same) two)
     by (Err why) none one two = subst (λ o. Agree o second) (sym one) (subst (Agree (Err why)) (sym two) refl)
 
 -- what is left of two lines, and told of them
@@ -49,49 +47,44 @@ same_end old other number (Err why) (Err reason) alike agree = record { verdicts
 same_end old other number (Ok one) (Err why) alike agree = absurd agree
 same_end old other number (Err why) (Ok two) alike agree = absurd agree
 
-told_end : (old other : Ledger) (number : ℕ) (line : Line) (replies more : List Reply) (mid last : Ledger) (first second : Outcome Answer) → Alike old other → LineSettlesNone line
+told_end : (old other : Ledger) (number : ℕ) (line : Line) (replies more : List Reply) (mid last : Ledger) (first second : Outcome Answer) → Alike old other → LineTakesNoRoute line
     → ComesTo old line first → ComesTo other line second → replies ≡ one_reply number (answer_of first) → more ≡ one_reply number (answer_of second)
     → mid ≡ ledger_after old first → last ≡ ledger_after other second
-    → ((kept : ℕ) (quote : Quote) → replies ≡ one_reply number (answers.Split kept quote) → HasNoRoute quote.problem → ⊥)
-    → ((kept : ℕ) (quote : Quote) → more ≡ one_reply number (answers.Split kept quote) → HasNoRoute quote.problem → ⊥)
     → SameEnd replies more mid last
-told_end old other number line replies more mid last first second alike none one two replies_are more_are mid_is last_is routed routed_too =
-    let agree = line_agrees old other line first second alike none one two
-    (λ kept quote is. routed kept quote (replies_are ∙ ap (one_reply number) is)) (λ kept quote is. routed_too kept quote (more_are ∙ ap (one_reply number) is)) in
+told_end old other number line replies more mid last first second alike none one two replies_are more_are mid_is last_is =
+    let agree = line_agrees old other line first second alike none one two in
     let end = same_end old other number first second alike agree in
     record {
       verdicts = ap verdicts_of replies_are ∙ end.verdicts ∙ sym (ap verdicts_of more_are);
       ledgers = subst (λ (l : Ledger). Alike l last) (sym mid_is) (subst (Alike (ledger_after old first)) (sym last_is) end.ledgers);
     }
 
-step_ends : (old other : Ledger) (number : ℕ) (line : Line) (replies more : List Reply) (mid last : Ledger) → Alike old other → LineSettlesNone line
+step_ends : (old other : Ledger) (number : ℕ) (line : Line) (replies more : List Reply) (mid last : Ledger) → Alike old other → LineTakesNoRoute line
     → Step old number line replies mid → Step other number line more last
-    → ((kept : ℕ) (quote : Quote) → replies ≡ one_reply number (answers.Split kept quote) → HasNoRoute quote.problem → ⊥)
-    → ((kept : ℕ) (quote : Quote) → more ≡ one_reply number (answers.Split kept quote) → HasNoRoute quote.problem → ⊥)
     → SameEnd replies more mid last
 unfolding Step
-step_ends old other number Blank replies more mid last alike none one two routed routed_too = record {
+step_ends old other number Blank replies more mid last alike none one two = record {
   verdicts = ap verdicts_of (one.0 ∙ sym two.0);
   ledgers = subst (λ (l : Ledger). Alike l last) (sym one.1) (subst (Alike old) (sym two.1) alike);
 }
-step_ends old other number Long replies more mid last alike none one two routed routed_too =
-    told_end old other number Long replies more mid last one.0 two.0 alike none one.1 two.1 one.2 two.2 one.3 two.3 routed routed_too
-step_ends old other number (Whole bytes) replies more mid last alike none one two routed routed_too =
-    told_end old other number (Whole bytes) replies more mid last one.0 two.0 alike none one.1 two.1 one.2 two.2 one.3 two.3 routed routed_too
+step_ends old other number Long replies more mid last alike none one two =
+    told_end old other number Long replies more mid last one.0 two.0 alike none one.1 two.1 one.2 two.2 one.3 two.3
+step_ends old other number (Whole bytes) replies more mid last alike none one two =
+    told_end old other number (Whole bytes) replies more mid last one.0 two.0 alike none one.1 two.1 one.2 two.2 one.3 two.3
 
 -- ---- a run
 
-runs_agree : (lines : List Line) (old other : Ledger) (number : ℕ) (told heard : List Reply) (new end : Ledger) → Alike old other → AllByRecursion LineSettlesNone lines
-    → RoutedRun old number lines told new → RoutedRun other number lines heard end → verdicts_of told ≡ verdicts_of heard
+runs_agree : (lines : List Line) (old other : Ledger) (number : ℕ) (told heard : List Reply) (new end : Ledger) → Alike old other → AllByRecursion LineTakesNoRoute lines
+    → Run old number lines told new → Run other number lines heard end → verdicts_of told ≡ verdicts_of heard
 runs_agree [] old other number told heard new end alike none one two = ap verdicts_of (one.0 ∙ sym two.0)
 runs_agree (line ∷ lines) old other number told heard new end alike none one two =
-    let first = step_ends old other number line one.0 two.0 one.2 two.2 alike none.0 one.3.step two.3.step one.3.routed two.3.routed in
+    let first = step_ends old other number line one.0 two.0 one.2 two.2 alike none.0 one.3 two.3 in
     let rest = runs_agree lines one.2 two.2 (number + 1) one.1 two.1 new end first.ledgers none.1 one.4 two.4 in
     ap verdicts_of one.5 ∙ map-append verdict_of one.0 one.1 ∙ ap₂ (λ xs ys. xs ++ ys) first.verdicts rest ∙ sym (map-append verdict_of two.0 two.1) ∙ sym (ap verdicts_of two.5)
 
 -- two runs from one ledger
-pub verdicts_fixed : (old : Ledger) (number : ℕ) (all : List Line) (told other : List Reply) (new end : Ledger) → AllByRecursion LineSettlesNone all
-    → RoutedRun old number all told new → RoutedRun old number all other end → verdicts_of told ≡ verdicts_of other
+pub verdicts_fixed : (old : Ledger) (number : ℕ) (all : List Line) (told other : List Reply) (new end : Ledger) → AllByRecursion LineTakesNoRoute all
+    → Run old number all told new → Run old number all other end → verdicts_of told ≡ verdicts_of other
 verdicts_fixed old number all told other new end none one two = runs_agree all old old number told other new end (record { same = refl; as_many = refl }) none one two
 
 -- ---- the counts

@@ -17,7 +17,7 @@ use Rattle.amm_model.specs.Operations.{burn, give_back, lend, mint, skim, swap, 
 use Rattle.amm_model.specs.Outcome.{◌>>=◌, Outcome}
 use Rattle.amm_model.specs.Postings.{transfer}
 use Rattle.amm_model.specs.Router.{add, exact_in, exact_out, remove}
-use Rattle.amm_verdicts.specs.Verdicts.{SettleNone, SettlesNone}
+use Rattle.amm_verdicts.specs.NoRoute.{SettleNone, SettlesNone}
 use Rattle.amm_verdicts.proofs.Requoted.{burn_same, create_same, give_back_same, lend_same, mint_same, outcome_having, skim_same, swap_same, sync_same, then_made, then_same, transfer_same, with_quotes}
 use Rattle.amm_verdicts.proofs.Router.{add_same, exact_in_same, exact_out_same, remove_same}
 

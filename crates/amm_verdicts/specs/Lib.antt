@@ -1,1 +1,2 @@
+pub mod NoRoute
 pub mod Verdicts

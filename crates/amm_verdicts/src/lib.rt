@@ -1,12 +1,9 @@
-//! Which lines are refused depends on the lines alone, as long as none settles a quote. A split may
-//! find any route that answers its problem, so two runs over the same lines may print different
-//! routes; but every other line does the same in both, whatever quotes are kept, and a split is
-//! refused for reasons that do not lie in them. So both runs refuse the same lines by the same
-//! codes, and count as many accepted and refused lines.
-//!
-//! The law is of runs in which a split is accepted only where something can be routed. What a split
-//! may come to does not say that: where nothing can be routed, a quote without legs, which delivers
-//! nothing, answers too, beside NO_ROUTE.
+//! Which lines are refused depends on the lines alone, as long as none trades along a route that
+//! was found: none settles a quote, sells a basket or takes a cycle. A split may find any route
+//! that answers its problem, so two runs over the same lines may print different routes; but every
+//! other line does the same in both, whatever quotes are kept, and a split is refused for reasons
+//! that do not lie in them. So both runs refuse the same lines by the same codes, and count as many
+//! accepted and refused lines.
 //!
 //! It holds of the definitions, whoever ran the lines, so this crate has no code, and stands on the
 //! definitions alone.

@@ -1,3 +1,4 @@
 mod Bytes
+mod NoRoute
 mod Plain
 mod Rows

@@ -5,7 +5,8 @@
 //! draws, and once in a thousand lines a split and its certificate.
 //!
 //! The bytes are those of a definition of the commands, each written as the row of a command is.
-//! So each line is read as the command that it was made from, as a law here says.
+//! So each line is read as the command that it was made from, as a law here says. Another says that
+//! no line trades along a route that was found.
 #![tactic(auto)]
 
 mod draws;
@@ -16,5 +17,5 @@ mod names;
 mod tests;
 mod work_line;
 
-pub use law::lines_read_back;
+pub use law::{lines_read_back, lines_take_no_route};
 pub use lines::make;

@@ -1,7 +1,8 @@
 -- The verdicts of replies, found in their bytes.
-use Rattle.std.proofs.Common.{◌≡◌, ◌≢◌, ◌≤◌, ◌<◌, ◌+◌, ◌-◌, eqb, ◌++◌, ◌∙◌, ◌==◌, ℕ, suc, zero, List, [], ◌∷◌, Bool, true, false, length, take, drop, slice_index, refl, sym, ap, subst, arith, append_assoc}
+use Rattle.std.proofs.Common.{◌≡◌, ◌≢◌, ◌<◌, ◌+◌, ◌-◌, eqb, ◌++◌, ◌∙◌, ℕ, suc, zero, List, [], ◌∷◌, Bool, true, false, length, take, drop, refl, sym, ap, subst, arith, append_assoc}
 use Rattle.std.specs.Prelude.{if◌then◌else◌, codes, decimal}
 use Rattle.std.specs.List.{AllByRecursion, starts_with}
+use Rattle.std.specs.Option.{is_some}
 use Rattle.std.proofs.Math.Seq.{take-append_seam, take-length, drop-append_seam, drop-append-add}
 use Rattle.std.proofs.lemmas.Bool.{ne_eqb, true≢false}
 use Rattle.std.proofs.lemmas.Bool.Decides.{nat_tests}
@@ -17,7 +18,7 @@ use Rattle.amm_model.specs.declared.reply.Reply.{Reply}
 use Rattle.amm_model.specs.Json.{list, whole}
 use Rattle.amm_model.specs.ReplyText.{reply_text, reply_value, verdict}
 use Rattle.amm_model.specs.Runs.{output_of}
-use Rattle.exchange.specs.Verdicts.{is_refusal, is_refused, accepted_in, refused_in}
+use Rattle.amm_verdicts.specs.Verdicts.{refusal_in, is_refused, accepted_in, refused_in}
 use Rattle.exchange.proofs.Unbroken.{AreLarge, compact_unbroken, decimal_large}
 
 -- ---- the first place of a byte
@@ -46,7 +47,7 @@ is_inside byte front more = omega (arith, length-append front (byte ∷ more))
 abbrev word_of : Bool → List ℕ
 word_of refused = if refused then codes "no" else codes "ok"
 
-told : (answer : Answer) → (rest : List Data) × (verdict answer ≡ string (word_of (is_refusal answer)) ∷ rest)
+told : (answer : Answer) → (rest : List Data) × (verdict answer ≡ string (word_of (is_some (refusal_in answer))) ∷ rest)
 told (answers.Refused code) = (_, refl)
 told (answers.Deposit balance total) = (_, refl)
 told (answers.Withdraw balance total) = (_, refl)
@@ -77,6 +78,8 @@ told (answers.Observe number observation) = (_, refl)
 told (answers.Average averages) = (_, refl)
 told (answers.Consult n) = (_, refl)
 told (answers.Window found) = (_, refl)
+told (answers.Basket quote) = (_, refl)
+told (answers.Cycle quote) = (_, refl)
 
 -- what stands before the first string of a reply
 abbrev before_word : ℕ → List ℕ

@@ -18,9 +18,9 @@ use Rattle.amm_model.specs.Ledger.{Ledger, opening_ledger}
 use Rattle.amm_model.specs.Lines.{IsUnbroken, line_of, lines_of}
 use Rattle.amm_model.specs.Runs.{FairRun, Step, output_of}
 use Rattle.amm_text.proofs.Sent.{list_plain}
+use Rattle.amm_verdicts.specs.Verdicts.{accepted_in, is_refused, refused_in}
 use Rattle.amm_work.specs.Commands.{commands_from, commands_of, line_from, line_text, work_bytes}
 use Rattle.exchange.specs.Headline.{RepliesToAll}
-use Rattle.exchange.specs.Verdicts.{accepted_in, is_refused, refused_in}
 use Rattle.exchange.specs.Work.{CountsRun, work_value}
 use Rattle.exchange.proofs.Counting.{one_counted}
 use Rattle.exchange.proofs.Unbroken.{compact_unbroken}
@@ -54,7 +54,7 @@ replies_to_each old new number (line ∷ lines) replies some run =
 
 -- ---- the lines of commands
 
-abbrev text_of : CommandView → List ℕ
+abbrev pub text_of : CommandView → List ℕ
 text_of asked = compact_text (row_value asked)
 
 all_unbroken : (asked : List CommandView) → AllByRecursion IsUnbroken (map text_of asked)
@@ -74,12 +74,15 @@ all_some : (asked : List CommandView) → AreSome (map line_of (map text_of aske
 all_some [] = tt
 all_some (c ∷ asked) = (row_some c, all_some asked)
 
+lines_of_rows : (asked : List CommandView) → lines_of (flat_map end_part (map text_of asked)) ≡ map line_of (map text_of asked)
+lines_of_rows asked = lines_of-parts (map text_of asked) (all_unbroken asked)
+
 -- a run over the lines of commands has as many replies
 pub replies_to_rows : (old new : Ledger) (number : ℕ) (asked : List CommandView) (bytes : List ℕ) (replies : List Reply) → bytes ≡ flat_map end_part (map text_of asked)
     → FairRun old number (lines_of bytes) replies new → accepted_in replies + refused_in replies ≡ length asked
 replies_to_rows old new number asked bytes replies is run =
     let parts : List (List ℕ) = map text_of asked in
-    let lines : lines_of bytes ≡ map line_of parts = ap lines_of is ∙ lines_of-parts parts (all_unbroken asked) in
+    let lines : lines_of bytes ≡ map line_of parts = ap lines_of is ∙ lines_of_rows asked in
     let each = replies_to_each old new number (map line_of parts) replies (all_some asked) (subst (λ ls. FairRun old number ls replies new) lines run) in
     each_counted replies ∙ each ∙ length-map parts line_of ∙ length-map asked text_of
 
@@ -93,6 +96,10 @@ lines_laid : (asked : List CommandView) → flat_map line_text asked ≡ flat_ma
 unfolding line_text
 lines_laid [] = refl
 lines_laid (c ∷ asked) = ap (λ s. end_part (text_of c) ++ s) (lines_laid asked)
+
+pub lines_of_work : (seed count : ℕ) → lines_of (work_bytes seed count) ≡ map line_of (map text_of (commands_of seed count))
+unfolding work_bytes
+lines_of_work seed count = ap lines_of (lines_laid (commands_of seed count)) ∙ lines_of_rows (commands_of seed count)
 
 -- the verdicts of the replies to the lines of a seed are as many as the lines
 pub counts_run : (seed count accepted refused : ℕ) (left written : Option (List ℕ)) → (told : RepliesToAll (work_bytes seed count) [] left written)

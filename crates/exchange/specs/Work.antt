@@ -9,8 +9,8 @@ use Rattle.amm_model.specs.Json.{list, whole}
 use Rattle.amm_model.specs.Ledger.{Ledger, opening_ledger}
 use Rattle.amm_model.specs.Lines.{lines_of}
 use Rattle.amm_model.specs.Runs.{FairRun}
+use Rattle.amm_verdicts.specs.Verdicts.{accepted_in, refused_in}
 use Rattle.amm_work.specs.Commands.{work_bytes}
-use Rattle.exchange.specs.Verdicts.{accepted_in, refused_in}
 
 -- These many of the replies of a run from the opening ledger over the lines of the seed accept, and
 -- these many refuse. Each line has a reply.

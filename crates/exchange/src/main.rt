@@ -21,7 +21,7 @@ mod worker;
 
 use amm_engine::{Seed, Status};
 use amm_io::{StdSink, StdSource};
-pub use laws::kept_quotes_are_found_right;
+pub use laws::{kept_quotes_are_found_right, work_is_a_function_of_its_words};
 use std::process::ExitCode;
 use std::random::RandomSource;
 use std::{env, io};

@@ -4,7 +4,7 @@ ghost use Rattle.amm_model.specs.declared.reply.Reply.{Reply};
 ghost use Rattle.serde_json.specs.Written.{compact_text};
 ghost use Rattle.amm_model.specs.ReplyText.{reply_value};
 ghost use Rattle.amm_model.specs.Runs.{output_of};
-ghost use Rattle.exchange.specs.Verdicts.{accepted_in, refused_in, is_refused};
+ghost use Rattle.amm_verdicts.specs.Verdicts.{accepted_in, refused_in, is_refused};
 
 use memchr::memchr;
 
