@@ -1,62 +1,6 @@
-//! Lines that are no commands, and lines that are too long.
-use super::session::{is_run, is_transcript};
+//! Lines whose bytes are no text, that nest deeply, or that are too long.
+use super::session::is_run;
 use std::test::Fail;
-
-/// Each of these as the only line of a run, with its reply.
-const DAMAGED: &str = r#"
-{"a"
-=> [1,"no",1,"BAD_JSON"]
-
-["mint"]
-=> [1,"no",2,"BAD_COMMAND"]
-
-["deposit","alice","ETH",1.0]
-=> [1,"no",2,"BAD_COMMAND"]
-
-["deposit","alice","ETH",5]x
-=> [1,"no",1,"BAD_JSON"]
-
-["deposit","alice","ETH",5
-=> [1,"no",1,"BAD_JSON"]
-
-["deposit","alice","ETH",1e3]
-=> [1,"no",2,"BAD_COMMAND"]
-
-["deposit","alice","ETH",-1]
-=> [1,"no",2,"BAD_COMMAND"]
-
-["deposit","alice","ETH","5"]
-=> [1,"no",2,"BAD_COMMAND"]
-
-["deposit","alice","ETH",5,6]
-=> [1,"no",2,"BAD_COMMAND"]
-
-["deposit","Alice","ETH",5]
-=> [1,"no",2,"BAD_COMMAND"]
-
-["de\u0070osit","alice","ETH",5]
-=> [1,"ok",5,5]
-
- [ "deposit" , "alice","ETH",5 ] 
-=> [1,"ok",5,5]
-
-["deposit","alice","ETH",1e999]
-=> [1,"no",1,"BAD_JSON"]
-
-["deposit","alice","ETH",18446744073709551616]
-=> [1,"no",2,"BAD_COMMAND"]
-
-["check"]
-=> [1,"no",2,"BAD_COMMAND"]
-"#;
-
-#[test]
-fn tells_bad_json_from_bad_commands(rt: HostRuntime) -> Result<(), Fail> {
-    for part in DAMAGED.split("\n\n") {
-        assert!(rt; is_transcript(&rt, &[part])?);
-    }
-    Ok(())
-}
 
 #[test]
 fn refuses_bytes_that_are_no_text_and_deep_nesting(rt: HostRuntime) -> Result<(), Fail> {
