@@ -59,23 +59,25 @@ def moves_of(tokens, prices):
                 yield after
 
 
-def helping_move(pools, quote, prices):
-    """Prices of one token, or of the two of a pool, that lower the bound by more than one part in 65536 of it, or None."""
+def helping_move(pools, parts, t, prices):
+    """Prices of one token, or of the two of a pool, that lower the bound of parts that are brought to
+    t by more than one part in 65536 of it, or None.
+    """
 
     def value(places, given, prices):
         worths = sum(worth(pools[place], *(prices[token] for token in pools[place].tokens)) for place in places)
-        return worths + (prices[quote.s] * quote.d if given else 0)
+        return worths + sum(prices[token] * amount for token, amount in given)
 
-    whole = value(range(len(pools)), True, prices)
-    now = whole // prices[quote.t]
+    whole = value(range(len(pools)), parts, prices)
+    now = whole // prices[t]
     for tokens in [(token,) for token in prices] + sorted({pool.tokens for pool in pools}):
-        if quote.t in tokens:
+        if t in tokens:
             continue
         touched = [place for place, pool in enumerate(pools) if set(tokens) & set(pool.tokens)]
-        given = quote.s in tokens
+        given = [part for part in parts if part[0] in tokens]
         rest = whole - value(touched, given, prices)
         for after in moves_of(tokens, prices):
-            if now > (rest + value(touched, given, prices | after)) // prices[quote.t] + now // 65536:
+            if now > (rest + value(touched, given, prices | after)) // prices[t] + now // 65536:
                 return after
     return None
 
@@ -103,6 +105,6 @@ def fault_of(quote):
             return f"{count} equal shares give more"
     if (spread_value(pools, ways, quote.d, range(1, 17), prices[quote.s], UNIT) or 0) > quote.delivered:
         return "shares at its prices give more"
-    if (after := helping_move(pools, quote, prices)) is not None:
+    if (after := helping_move(pools, [(quote.s, quote.d)], quote.t, prices)) is not None:
         return f"its prices are not settled: {after} is better"
     return None

@@ -1,14 +1,12 @@
-#!/usr/bin/env python3
 """The values that a routed answer is measured by, from their definitions and nothing else.
 
 Goes through all lists of pools, all pairs of paths and all shares of small problems, one after the
 other as the definitions of amm_model/specs (Paths, Values, Spreads, Baskets, Cycles, Bound,
-Observations, WeightedPrices) say, with exact integers, and compares with values that were worked
-out by hand. It shares no code with the engine. Exits with 1 where a value differs.
+Observations, WeightedPrices) say, with exact integers. It shares no code with the engine.
+`scripts/test-values` compares with values that were worked out by hand.
 """
 
 import itertools
-import sys
 from math import isqrt
 
 WIDTH = 1 << 48  # reserves and balances that a pool can take are below this
@@ -81,21 +79,36 @@ def paths(pools, source, target):
     return sorted(found, key=places)
 
 
-def walked_paths(pools, source, target):
-    """The same paths, sooner: a longer one goes on from one that has not come to the target."""
+def one_more(pools, chains, start):
+    """The chains from start, each with one more hop over a pool of the token that it came to."""
+    near = {}
+    for place, pool in enumerate(pools):
+        for token in pool.tokens if pool.is_admissible() else ():
+            near.setdefault(token, []).append((place, pool.tokens[0] == token))
+    for chain in chains:
+        last = token_out(pools, chain[-1]) if chain else start
+        yield from ((*chain, hop) for hop in near.get(last, ()) if hop[0] not in places(chain))
+
+
+def walked(pools, start, target, most, met):
+    """All chains from start to target of at most so many hops, in which no token comes twice nor
+    was met. A longer one goes on from one that has not come to the target.
+    """
     found, begun = [], [()]
-    for _ in range(3):
-        longer = []
-        for path in begun:
-            last = token_out(pools, path[-1]) if path else source
-            for place, pool in enumerate(pools):
-                if pool.is_admissible() and last in pool.tokens and place not in places(path):
-                    hop = place, pool.tokens[0] == last
-                    if token_out(pools, hop) not in [source, *(token_out(pools, h) for h in path)]:
-                        longer.append((*path, hop))
-        found += [path for path in longer if token_out(pools, path[-1]) == target]
-        begun = [path for path in longer if token_out(pools, path[-1]) != target]
-    return sorted(found, key=places)
+    for _ in range(most):
+        longer = [
+            chain
+            for chain in one_more(pools, begun, start)
+            if are_different([*met, *(token_out(pools, hop) for hop in chain)])
+        ]
+        found += [chain for chain in longer if token_out(pools, chain[-1]) == target]
+        begun = [chain for chain in longer if token_out(pools, chain[-1]) != target]
+    return found
+
+
+def walked_paths(pools, source, target):
+    """The same paths, sooner."""
+    return sorted(walked(pools, source, target, 3, [source]), key=places)
 
 
 def places(path):
@@ -151,32 +164,47 @@ def equal_spread(pools, ways, d, count):
     return spread_value(pools, ways, d, [16 // count], 0, 1)
 
 
-def sequential_value(pools, parts, target):
+def sequential_value(pools, amounts, ways):
+    """The amounts of parts one after the other, where these are the ways of each."""
     used, total = [], 0
-    for token, amount in parts:
-        ways = [
-            path
-            for path in paths(pools, token, target)
-            if are_apart(path, used) and gives(pools, path, amount)
-        ]
-        if ways:
-            best = min(ways, key=lambda path: (-gives(pools, path, amount), places(path)))
+    for amount, own in zip(amounts, ways):
+        free = [path for path in own if are_apart(path, used) and gives(pools, path, amount)]
+        if free:
+            best = min(free, key=lambda path: (-gives(pools, path, amount), places(path)))
             used, total = used + places(best), total + gives(pools, best, amount)
     return total
 
 
-def cycle_values(pools, target):
-    for length in (2, 3, 4):
-        for cycle in itertools.product(hops(pools), repeat=length):
-            given = [token_out(pools, hop) for hop in cycle]
-            if (
-                are_different(places(cycle))
-                and leads(pools, target, cycle, target)
-                and are_different(given)
-            ):
-                for e in range(52):
-                    if gives(pools, cycle, 2**e) > 2**e:
-                        yield gives(pools, cycle, 2**e) - 2**e
+def is_cycle(pools, target, cycle):
+    return (
+        2 <= len(cycle) <= 4
+        and all(pools[place].is_admissible() for place, _ in cycle)
+        and are_different(places(cycle))
+        and leads(pools, target, cycle, target)
+        and are_different([token_out(pools, hop) for hop in cycle])
+    )
+
+
+def cycles(pools, target):
+    """All cycles from a token back to it, the shorter ones first, in the order of their places."""
+    return [
+        cycle
+        for length in (2, 3, 4)
+        for cycle in itertools.product(hops(pools), repeat=length)
+        if is_cycle(pools, target, cycle)
+    ]
+
+
+def walked_cycles(pools, target):
+    """The same cycles, sooner."""
+    return walked(pools, target, target, 4, [])
+
+
+def cycle_values(pools, ways):
+    for cycle in ways:
+        for e in range(52):
+            if gives(pools, cycle, 2**e) > 2**e:
+                yield gives(pools, cycle, 2**e) - 2**e
 
 
 def worth(pool, p0, p1):
@@ -226,103 +254,3 @@ def reading(stretch, price):
 
 def at_average(average, amount):
     return average * amount // PLACES
-
-
-MILLION = 10**6
-
-
-def even(*pairs):
-    """Pools of a million on each side."""
-    return [Pool(pair, MILLION, MILLION) for pair in pairs]
-
-
-def cases():
-    """What, the value, and the value by hand."""
-    triangle = even("AM", "AT", "MT")
-    # One path gives floor(997*100000*10^6/(10^9+997*100000)) = 90661 directly. Eleven sixteenths,
-    # 68750, give 64146 there, and 31250 give 30214 and then 29242 by way of M.
-    ways = paths(triangle, "A", "T")
-    yield "triangle, best one way", max(one_way_values(triangle, ways, 100000)), 90661
-    yield "triangle, best two ways", max(two_way_values(triangle, ways, 100000)), 64146 + 29242
-    # A bound at the prices 1 and 2 is (100000 + 170329) / 2, at equal prices what is given.
-    direct = even("AT")
-    yield "bound, prices 1 and 2", bound(direct, [("A", 100000)], "T", {"A": 1, "T": 2}), 135164
-    yield "bound, prices 1 and 1", bound(direct, [("A", 100000)], "T", {"A": 1, "T": 1}), 100000
-    # A fourth of 400000 gives 90661 in the first pool of each way and 82896 in its second. Two
-    # halves give 166249 and then 142183 each.
-    middles = ["A1", "A2", "A3", "A4", "1T", "2T", "3T", "4T"]
-    four = even(*middles)
-    ways = paths(four, "A", "T")
-    yield "four ways, equal shares", equal_spread(four, ways, 400000, 4), 4 * 82896
-    yield "four ways, best two ways", max(two_way_values(four, ways, 400000)), 2 * 142183
-    # At the prices 855, 900, 900, 1000 half goes directly and gives 73868, and a fourth goes each
-    # by M and by N and gives 36826. Without prices a half goes directly, where it gives most, and
-    # then a half by M: 73868 + 68594; two ways do best with eleven sixteenths directly, 98831, and
-    # five by M, 50000 to 47482 to 45199.
-    web = even("AM", "AN", "AT", "MT", "NT")
-    ways = paths(web, "A", "T")
-    priced = spread_value(web, ways, 160000, range(1, 17), 855, 1000)
-    plain = max(equal_spread(web, ways, 160000, count) for count in (2, 4, 8))
-    yield "shares at prices", priced, 73868 + 2 * 36826
-    yield "equal shares", plain, 73868 + 68594
-    yield "two ways", max(two_way_values(web, ways, 160000)), 98831 + 45199
-    # By a walk there are the same paths: A-T, A-M-T and A-N-T; of N in the place of T also A-T-N,
-    # A-M-T-N.
-    yield "paths by a walk", walked_paths(web, "A", "T"), ways
-    yield "longer paths by a walk", walked_paths(web, "A", "N"), paths(web, "A", "N")
-    # Each of two parts gives 90661 in a pool of its own.
-    both = even("AT", "BT")
-    parts = [("A", 100000), ("B", 100000)]
-    yield "basket, one after the other", sequential_value(both, parts, "T"), 2 * 90661
-    alone = paths(both, "B", "T")
-    yield "basket, a part alone", max(one_way_values(both, alone, 100000)), 90661
-    # 262144 U give floor(997*262144*10^6/(4*10^9+997*262144)) = 61331 E in the pool of fee 3, and
-    # these give floor(999*61331*5*10^6/(10^9+999*61331)) = 288662 U in the other.
-    unequal = [Pool("EU", MILLION, 4 * MILLION), Pool("EU", MILLION, 5 * MILLION, fee=1)]
-    yield "cycle, best power of two", max(cycle_values(unequal, "U")), 288662 - 262144
-    yield "cycle, none in one pool", sum(1 for _ in cycle_values(unequal[:1], "U")), 0
-    # A pool whose surplus leaves no room for 100000 gives nothing for it; one with a balance past
-    # the width has no path.
-    full = [Pool("AT", MILLION, MILLION, balances=(WIDTH - 50000, MILLION))]
-    ways = paths(full, "A", "T")
-    # Seven sixteenths are 43750, and give floor(997*43750*10^6 / (10^9 + 997*43750)) =
-    # floor(43618750000000 / 1043618750) = 41795; eight come to the width.
-    yield "little room", max(one_way_values(full, ways, 100000)), 41795
-    over = [Pool("AT", MILLION, MILLION, balances=(WIDTH, MILLION))]
-    yield "a balance past the width", paths(over, "A", "T"), []
-    yield from average_cases()
-
-
-def average_cases():
-    # A million ETH and four million USD for ten seconds, then two million ETH for twenty. The price
-    # of ETH is 4, then 2: 10*4 + 20*2 = 80 by seconds. That of USD is 1/4, then 1/2: 25/2. In units
-    # of 2^-48 these are 80*2^48 and 25*2^47, and a thirtieth of each, rounded down, is the average.
-    # 3000 ETH come to floor(3000*80/30 less a little) = 7999.
-    stretch = [(0, MILLION, 4 * MILLION), (10, MILLION, 4 * MILLION)]
-    stretch += [(10, 2 * MILLION, 4 * MILLION), (30, 2 * MILLION, 4 * MILLION)]
-    for price, acc, average in (
-        (price0, 22517998136852480, 750599937895082),
-        (price1, 3518437208883200, 117281240296106),
-    ):
-        yield f"sum of {price.__name__}", weighted_sum(stretch, price), acc
-        yield f"reading of {price.__name__}", reading(stretch, price), acc
-        yield f"average of {price.__name__}", weighted_average(stretch, price), average
-    yield "amount at the average", at_average(weighted_average(stretch, price0), 3000), 7999
-    # Equal reserves for ten seconds, in which the time passes 2^32: ten times 2^48, and 2^48.
-    stretch = [(4294967291, MILLION, MILLION), (4294967301, MILLION, MILLION)]
-    yield "reading past 2^32", reading(stretch, price0), 2814749767106560
-    yield "average past 2^32", weighted_average(stretch, price0), 281474976710656
-
-
-def main():
-    wrong = 0
-    for what, value, by_hand in cases():
-        if value != by_hand:
-            wrong += 1
-            print(f"{what}: {value}, by hand {by_hand}")
-    print(f"values: {wrong} differ" if wrong else "values: as worked out by hand")
-    return 1 if wrong else 0
-
-
-if __name__ == "__main__":
-    sys.exit(main())
