@@ -1,7 +1,8 @@
 """What the best real route of a problem delivers: the least bound over all real prices.
 
-Pools are (tokens, gamma, reserves), gamma being the part of an input that counts. The bound is convex in the prices. In relative prices
-its second derivative is a weighted graph: an edge for each pool that trades.
+Pools are (tokens, gamma, reserves), gamma being the part of an input that counts, and what is given is an amount of some tokens, none
+for a cycle. The bound is convex in the prices. In relative prices its second derivative is a weighted graph: an edge for each pool that
+trades.
 """
 import math
 
@@ -18,18 +19,19 @@ def sides(pool, prices):
     return None
 
 
-def bound(pools, s, d, prices):
-    total = prices[s] * d
+def bound(pools, given, prices):
+    total = sum(prices[token] * n for token, n in given.items())
     for pool in pools:
         if trade := sides(pool, prices):
             total += (math.sqrt(trade[3]) - math.sqrt(trade[2])) ** 2 / pool[1]
     return total
 
 
-def leftovers(pools, s, d, prices):
+def leftovers(pools, given, prices):
     """What the best trades leave over of each token, at its price; and the edges of the pools that trade."""
     left = dict.fromkeys(prices, 0.0)
-    left[s] += prices[s] * d
+    for token, n in given.items():
+        left[token] += prices[token] * n
     edges = []
     for pool in pools:
         if trade := sides(pool, prices):
@@ -57,9 +59,9 @@ def solved(matrix, right):
     return found
 
 
-def newton(pools, s, t, d, prices):
+def newton(pools, given, t, prices):
     """The prices after one step of Newton's method, as far as it lowers the bound."""
-    left, edges = leftovers(pools, s, d, prices)
+    left, edges = leftovers(pools, given, prices)
     free = [token for token in prices if token != t]
     place = {token: i for i, token in enumerate(free)}
     matrix = [[0.0] * len(free) for _ in free]
@@ -73,22 +75,22 @@ def newton(pools, s, t, d, prices):
     for i in range(len(free)):
         matrix[i][i] += ridge
     step = solved(matrix, [-left[token] for token in free])
-    now, scale = bound(pools, s, d, prices), 1.0
+    now, scale = bound(pools, given, prices), 1.0
     while scale > 1e-4:
         after = {token: price * math.exp(max(-1.0, min(1.0, scale * step[place[token]]))) if token != t else price for token, price in prices.items()}
-        if bound(pools, s, d, after) < now:
+        if bound(pools, given, after) < now:
             return after
         scale /= 2
     return prices
 
 
-def in_turn(pools, s, t, d, prices):
+def in_turn(pools, given, t, prices):
     """Each price but that of t brought to where nothing of its token is left over, while the others stay."""
     prices = dict(prices)
     near = {token: [pool for pool in pools if token in pool[0]] for token in prices}
 
     def left(token, price):
-        return leftovers(near[token], s, d, prices | {token: price})[0][token]
+        return leftovers(near[token], given, prices | {token: price})[0][token]
 
     for token in prices:
         if token == t or not near[token]:
@@ -107,16 +109,16 @@ def in_turn(pools, s, t, d, prices):
     return prices
 
 
-def least_bound(pools, s, t, d, prices):
+def least_bound(pools, given, t, prices):
     """The least bound that is found from these prices on, in units of t."""
     prices = {token: price / prices[t] for token, price in prices.items()}
-    now = bound(pools, s, d, prices)
+    now = bound(pools, given, prices)
     for _ in range(30):
         before = now
-        prices = in_turn(pools, s, t, d, prices)
+        prices = in_turn(pools, given, t, prices)
         for _ in range(8):
-            prices = newton(pools, s, t, d, prices)
-        now = min(now, bound(pools, s, d, prices))
+            prices = newton(pools, given, t, prices)
+        now = min(now, bound(pools, given, prices))
         if now > before * (1 - 1e-10):
             break
     return now

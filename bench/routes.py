@@ -1,201 +1,147 @@
 #!/usr/bin/env python3
-"""Routes over problems that seeds make: how far what a split delivers is below its bound and below the best of all real routes, and
-how long the split takes.
+"""Routes over problems that seeds make: how far what a split, a basket or a cycle brings is below its bound and below the best of all
+real routes, and how long it takes.
 
     bench/routes.py [SEEDS [RUNS [KIND..]]]      (5 seeds, the least time of 3 runs, all kinds where nothing is given)
 
-Run it after `./exchange` has built the program. Each problem is a session of deposits and adds, and a split at its end. The reply is
-judged by `scripts/splits.py`. The time is that of the whole program with the split less that without it.
+Run it after `./exchange` has built the program. Each problem is a session of deposits and adds, and a split, a basket or a cycle at its
+end. The reply is judged by `scripts/splits.py` or `scripts/sales.py`. The time is that of the whole program with this line less that
+without it.
 
-No real route delivers more than the bound at any real prices, and the best of them delivers the least of these bounds, since the problem
-is convex. `best_route.py` looks for it, from the printed prices on and from those that the market was made with. Pools that no leg may use, since a balance is past the width of a
-reserve, are left out of it.
+No real route brings more than the bound at any real prices, and the best of them brings the least of these bounds, since the problem is
+convex. `best_route.py` looks for it, from the printed prices on and from those that the market was made with. Pools that no leg may use,
+since a balance is past the width of a reserve, are left out of it. A route may use every pool, so that the best one out of nothing brings
+more than the best cycle, which uses four.
+
+A basket is also sold part by part: a split of each part, settled at once, in the order of the parts. How much more the basket brings
+than that is told beside it.
 """
-import itertools
 import json
-import random
 import statistics
 import sys
 import tempfile
-from collections import defaultdict
 from pathlib import Path
 
+import markets
 from best_route import least_bound
+from markets import MOST, fee_of, ordinary, sides
 from measure import ROOT, run, write_lines
 
 sys.path.insert(0, str(ROOT / "scripts"))
+import sales  # noqa: E402
 from splits import Quote, fault_of  # noqa: E402
 
-MOST = 2**52 - 1
-UNIT = 2**20
+# Of user time, for a cycle over 64 tokens and 256 pools.
+CYCLE_SECONDS = 0.3
 
 
-class Market:
-    """Tokens, each with a worth, and pools near the prices that the worths say."""
+class Task:
+    """A line at the end of a session, what it brings to t, and the amounts of the tokens that are given for it."""
 
-    def __init__(self, seed, count, noise=0.002, worths=10, depth=(20, 36), fees=(1, 3, 3, 3, 10)):
-        self.random = random.Random(seed)
-        self.tokens = [f"T{i:02}" for i in range(count)]
-        self.worth = {token: 2 ** self.random.uniform(0, worths) for token in self.tokens}
-        self.noise, self.depth, self.fees = noise, depth, fees
-        self.pools, self.gifts = {}, defaultdict(int)
+    def __init__(self, line, given, t):
+        self.line, self.given, self.t = line, given, t
 
-    def add(self, a, b, fee=None, depth=None):
-        """A pool of two tokens, unless there is one: each side of it is worth 2 to the depth."""
-        a, b = sorted((a, b))
-        fee = fee or self.random.choice(self.fees)
-        name = f"{a}/{b}" + ("" if fee == 3 else f":{fee}")
-        value = 2 ** (depth or self.random.uniform(*self.depth))
-        skew = 1 + self.random.uniform(-self.noise, self.noise)
-        reserves = value / self.worth[a] * skew, value / self.worth[b]
-        if a != b and name not in self.pools and len(self.pools) < 256:
-            self.pools[name] = tuple(max(1001, min(2**47, round(r))) for r in reserves)
-
-    def spread(self, pools):
-        """A tree over all tokens, and pools between any two up to the number."""
-        for i in range(1, len(self.tokens)):
-            self.add(self.tokens[i], self.tokens[self.random.randrange(i)])
-        while len(self.pools) < pools:
-            self.add(*self.random.sample(self.tokens, 2))
-        return self
-
-    def rows(self):
-        """The pools with reserves and balances, in the order of their names."""
-        return [
-            [name, *reserves, *(r + self.gifts[name, side] for side, r in enumerate(reserves))]
-            for name, reserves in sorted(self.pools.items())
-        ]
-
-    def lines(self):
-        needs = defaultdict(int)
-        for name, _, _, b0, b1 in self.rows():
-            for token, n in zip(sides(name), (b0, b1)):
-                needs[token] += n
-        assert max(needs.values()) <= MOST
-        for token in self.tokens:
-            yield json.dumps(["deposit", "ann", token, needs[token]])
-        for name, r0, r1, b0, b1 in self.rows():
-            yield json.dumps(["add", "ann", *sides(name), r0, r1, 0, 0, "ann", MOST, fee_of(name)])
-            for token, gift in zip(sides(name), (b0 - r0, b1 - r1)):
-                yield json.dumps(["transfer", "ann", token, name, gift])
-
-    def task(self, share=None):
-        """Two tokens that a path of at most three pools joins, and some share of what the pools of the first have of it."""
-        near = defaultdict(set)
-        for name in self.pools:
-            a, b = sides(name)
-            near[a].add(b)
-            near[b].add(a)
-        s = self.random.choice([token for token in self.tokens if near[token]])
-        reach = {c for a in near[s] for b in near[a] | {a} for c in near[b] | {b}} | near[s]
-        t = self.random.choice(sorted(reach - {s}))
-        has = sum(r for name, reserves in self.pools.items() for token, r in zip(sides(name), reserves) if token == s)
-        return s, t, max(1, min(MOST, int(has * (share or 10 ** self.random.uniform(-4, -1)))))
+    def fault(self, market, delivered, bound, prices, legs):
+        """The first thing for which these are no answer to the line, or None."""
+        if self.line[0] == "split":
+            return fault_of(Quote(*self.line[1:], market.rows(), prices, legs, delivered, bound))
+        problem = sales.Problem(list(self.given.items()), self.t, market.rows())
+        answer = sales.Answer(delivered, bound, prices, legs)
+        return sales.basket_fault(problem, answer, 0) if self.given else sales.cycle_fault(problem, answer)
 
 
-def sides(name):
-    return name.split(":")[0].split("/")
+def split(market):
+    s, t, d = market.split()
+    return Task(["split", s, t, d], {s: d}, t)
 
 
-def fee_of(name):
-    return int(name.partition(":")[2] or 3)
+def basket(count):
+    def task(market):
+        given, t = market.basket(count)
+        return Task(["basket", "ann", list(given.items()), t, 0, MOST], given, t)
+
+    return task
 
 
-def ordinary(tokens, pools, **more):
-    return lambda seed: Market(seed, tokens, **more).spread(pools)
+def cycle(market):
+    t = market.random.choice([token for token, near in sorted(market.near().items()) if len(near) > 1])
+    return Task(["cycle", "bob", t, MOST], {}, t)
 
 
-def hubs(seed):
-    market = Market(seed, 50)
-    for token in market.tokens[3:]:
-        for hub in market.random.sample(market.tokens[:3], 2):
-            market.add(token, hub)
-    for a, b in ((0, 1), (0, 2), (1, 2)):
-        for fee in (1, 3, 10):
-            market.add(market.tokens[a], market.tokens[b], fee)
-    return market
-
-
-def ladder(seed):
-    market = Market(seed, 40)
-    for i in range(0, 40, 2):
-        market.add(*market.tokens[i:i + 2])
-        for rail in (0, 1):
-            for fee in (3, 10) if i < 38 else ():
-                market.add(market.tokens[i + rail], market.tokens[i + 2 + rail], fee)
-    return market
-
-
-def chain(seed):
-    """All three fees at each link."""
-    market = Market(seed, 24)
-    for a, b in zip(market.tokens, market.tokens[1:]):
-        for fee in (1, 3, 10):
-            market.add(a, b, fee)
-    return market
-
-
-def dense(seed):
-    market = Market(seed, 22)
-    for i, a in enumerate(market.tokens):
-        for b in market.tokens[:i]:
-            market.add(a, b)
-    return market
-
-
-def three_fees(seed):
-    market = Market(seed, 12)
-    for a, b in market.random.sample(list(itertools.combinations(market.tokens, 2)), 28):
-        for fee in (1, 3, 10):
-            market.add(a, b, fee)
-    return market
-
-
-def surplus(seed):
-    """Pools that hold more than their reserves, some so much that no input has room."""
-    market = Market(seed, 16).spread(60)
-    for name, reserves in market.pools.items():
-        for side in (0, 1):
-            if market.random.random() < 0.5:
-                market.gifts[name, side] = market.random.choice((1, reserves[side] // 7, 2**47, 2**48))
-    return market
-
-
-KINDS = {
+SPLITS = {
     "ordinary 4/8": ordinary(4, 8),
     "ordinary 10/24": ordinary(10, 24),
     "ordinary 16/60": ordinary(16, 60),
     "ordinary 40/160": ordinary(40, 160),
     "ordinary 64/256": ordinary(64, 256),
-    "hubs 50/103": hubs,
-    "ladder 40/96": ladder,
-    "chain 24/69": chain,
-    "dense 22/231": dense,
-    "three fees 12/84": three_fees,
+    "hubs 50/103": markets.hubs,
+    "ladder 40/96": markets.ladder,
+    "chain 24/69": markets.chain,
+    "dense 22/231": markets.dense,
+    "three fees 12/84": markets.three_fees,
     "arbitrage 16/60": ordinary(16, 60, noise=0.05),
     "arbitrage 64/256": ordinary(64, 256, noise=0.05),
     "tiny pools 16/60": ordinary(16, 60, worths=1, depth=(10, 13)),
     "great reserves 24/60": ordinary(24, 60, worths=1, depth=(44, 47)),
-    "surplus 16/60": surplus,
+    "surplus 16/60": markets.surplus,
     "ends of the grid 16/60": ordinary(16, 60, worths=24, depth=(34, 40)),
 }
+BASKETS = {
+    "2 parts, ordinary 4/8": (2, ordinary(4, 8)),
+    "3 parts, ordinary 10/24": (3, ordinary(10, 24)),
+    "5 parts, ordinary 10/24": (5, ordinary(10, 24)),
+    "8 parts, ordinary 16/60": (8, ordinary(16, 60)),
+    "8 parts, arbitrage 16/60": (8, ordinary(16, 60, noise=0.05)),
+    "8 parts, tiny pools 16/60": (8, ordinary(16, 60, worths=1, depth=(10, 13))),
+    "8 parts, great 24/60": (8, ordinary(24, 60, worths=1, depth=(44, 47))),
+    "8 parts, surplus 16/60": (8, markets.surplus),
+}
+CYCLES = {
+    "cycle, arbitrage 4/8": ordinary(4, 8, noise=0.05),
+    "cycle, arbitrage 16/60": ordinary(16, 60, noise=0.05),
+    "cycle, arbitrage 64/256": ordinary(64, 256, noise=0.05),
+    "cycle, ordinary 64/256": ordinary(64, 256),
+    "cycle, tiny pools 16/60": ordinary(16, 60, worths=1, depth=(10, 13)),
+}
+KINDS = {
+    **{kind: (split, market) for kind, market in SPLITS.items()},
+    **{kind: (basket(count), market) for kind, (count, market) in BASKETS.items()},
+    **{kind: (cycle, market) for kind, market in CYCLES.items()},
+}
+TABLES = [("split", SPLITS), ("basket", BASKETS), ("cycle", CYCLES)]
 
 
 def best_delivered(market, task, prices):
     """What the best real route delivers over the pools that a leg may use, in whole units."""
     pools = [(sides(row[0]), 1 - fee_of(row[0]) / 1000, row[1:3]) for row in market.rows() if max(row[3:]) < 2**48]
-    s, t, d = task
-    return int(min(least_bound(pools, s, t, d, start) for start in (prices, market.worth)))
+    return int(min(least_bound(pools, task.given, task.t, start) for start in (prices, market.worth)))
 
 
 def measured(market, task, runs, folder):
-    """The reply to the split, and its milliseconds."""
+    """The reply to the line, its milliseconds, and its seconds of user time."""
     path, told = Path(folder) / "input", Path(folder) / "output"
-    walls = []
-    for lines in ([], [json.dumps(["split", *task])]):
-        write_lines(path, [*market.lines(), *lines])
-        walls.append(min(run(path, output=told).wall for _ in range(runs)))
-    return json.loads(told.read_text().splitlines()[-1]), 1000 * (walls[1] - walls[0])
+    costs = []
+    for lines in ([], [json.dumps(task.line)]):
+        write_lines(path, [*market.lines(task.given), *lines])
+        ran = [run(path, output=told) for _ in range(runs)]
+        costs.append((min(cost.wall for cost in ran), min(cost.user for cost in ran)))
+    (wall, user), (wall_with, user_with) = costs
+    return json.loads(told.read_text().splitlines()[-1]), 1000 * (wall_with - wall), user_with - user
+
+
+def part_by_part(market, task, folder):
+    """What the parts bring by splits, each settled before the next is asked for.
+
+    A split that is refused keeps no quote, so each number is tried: the quotes before are stale.
+    """
+    path, told = Path(folder) / "input", Path(folder) / "output"
+    lines = []
+    for count, (token, n) in enumerate(task.given.items(), 1):
+        lines += [["split", token, task.t, n], *(["settle", "ann", number, MOST] for number in range(1, count + 1))]
+    write_lines(path, [*market.lines(task.given), *map(json.dumps, lines)])
+    run(path, output=told)
+    replies = map(json.loads, told.read_text().splitlines()[-len(lines):])
+    return sum(reply[2] for line, reply in zip(lines, replies) if line[0] == "settle" and reply[1] == "ok")
 
 
 def told(values, digits=0):
@@ -205,29 +151,61 @@ def told(values, digits=0):
     return f"{statistics.median(values):10.{digits}f} {max(values):12.{digits}f}"
 
 
+def head(word):
+    columns = ["below the bound, ppm", "below the best, ppm", *(["above part by part, ppm"] if word == "basket" else []), "ms"]
+    print(f"{word:24} {'':7}" + "".join(f"{column:>24}" for column in columns))
+    print(f"{'kind, tokens/pools':24} {'routes':>7}" + f"{'median':>11} {'greatest':>12}" * len(columns))
+
+
+def ppm(more, less):
+    return (more / less - 1) * 1e6
+
+
+class Findings:
+    """What was measured of a kind."""
+
+    def __init__(self):
+        self.bound_gaps, self.gaps, self.gains, self.times, self.user = [], [], [], [], []
+
+    def add(self, kind, seed, runs):
+        task_of, market_of = KINDS[kind]
+        market = market_of(f"{kind} {seed}")
+        task = task_of(market)
+        with tempfile.TemporaryDirectory() as folder:
+            reply, ms, user = measured(market, task, runs, folder)
+            self.times.append(ms)
+            self.user.append(user)
+            if reply[1:] == ["no", 30, "NO_ROUTE"]:
+                return
+            delivered, bound, prices, legs = reply[3:] if task.line[0] == "split" else reply[2:]
+            if fault := task.fault(market, delivered, bound, prices, legs):
+                sys.exit(f"{kind}, seed {seed}: {fault}")
+            if task.line[0] == "basket":
+                self.gains.append(ppm(delivered, max(1, part_by_part(market, task, folder))))
+        self.bound_gaps.append(ppm(int(bound), delivered))
+        best = min(int(bound), best_delivered(market, task, dict(prices)))
+        self.gaps.append(max(0, ppm(best, delivered)))
+
+    def row(self, kind):
+        gains = [told(self.gains)] if kind in BASKETS else []
+        columns = [told(self.bound_gaps), told(self.gaps), *gains, told(self.times, 1)]
+        return f"{kind:24} {len(self.gaps):3}/{len(self.times):<3} {' '.join(columns)}"
+
+
 def main():
     words = sys.argv[1:]
     seeds, runs = (int(word) for word in [*words[:2], *("5", "3")[len(words[:2]):]])
-    print(f"{'':24} {'':7} {'below the bound, ppm':>23} {'below the best, ppm':>23} {'ms':>23}")
-    print(f"{'kind, tokens/pools':24} {'routes':>7}" + f"{'median':>11} {'greatest':>12}" * 3)
-    for kind in words[2:] or KINDS:
-        bound_gaps, gaps, times, none = [], [], [], 0
-        for seed in range(1, seeds + 1):
-            market = KINDS[kind](f"{kind} {seed}")
-            task = market.task()
-            with tempfile.TemporaryDirectory() as folder:
-                reply, ms = measured(market, task, runs, folder)
-            times.append(ms)
-            if reply[1:] == ["no", 30, "NO_ROUTE"]:
-                none += 1
-                continue
-            _, _, _, delivered, bound, prices, legs = reply
-            if fault := fault_of(Quote(*task, market.rows(), prices, legs, delivered, bound)):
-                sys.exit(f"{kind}, seed {seed}: {fault}")
-            bound_gaps.append((int(bound) / delivered - 1) * 1e6)
-            best = min(int(bound), best_delivered(market, task, dict(prices)))
-            gaps.append(max(0, best / delivered - 1) * 1e6)
-        print(f"{kind:24} {len(gaps):3}/{seeds:<3} {told(bound_gaps)} {told(gaps)} {told(times, 1)}", flush=True)
+    for word, kinds in TABLES:
+        chosen = [kind for kind in words[2:] or kinds if kind in kinds]
+        if chosen:
+            head(word)
+        for kind in chosen:
+            findings = Findings()
+            for seed in range(1, seeds + 1):
+                findings.add(kind, seed, runs)
+            print(findings.row(kind), flush=True)
+            if word == "cycle" and kind.endswith("64/256"):
+                print(f"{'':24} at most {max(findings.user):.3f} s of user time; {CYCLE_SECONDS} s are aimed at")
 
 
 if __name__ == "__main__":
