@@ -14,6 +14,3 @@ mod candidates;
 mod in_turn;
 
 pub use answers::basket;
-
-#[cfg(test)]
-mod tests;

@@ -149,6 +149,3 @@ pub fn legs_are_a_route()
         IsOpenProblem problem → AreLegs problem.pools [] (amount_given problem) legs →
         delivered_by problem (map trade_of legs) ≡ after_legs problem.pools (amount_given problem) legs problem.t }
 {}
-
-#[cfg(test)]
-mod tests;

@@ -12,8 +12,6 @@ pub mod law;
 pub mod quote;
 mod reader;
 mod row;
-#[cfg(test)]
-mod tests;
 
 pub use certificate_writer::{send_certificate, write};
 pub use reader::read;

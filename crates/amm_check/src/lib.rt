@@ -7,8 +7,6 @@
 #![tactic(auto)]
 
 pub mod law;
-#[cfg(test)]
-mod tests;
 mod verdict;
 
 pub use verdict::{Verdict, check};

@@ -13,8 +13,6 @@ mod plain;
 mod row;
 mod step;
 mod step_row;
-#[cfg(test)]
-mod tests;
 mod whole_line;
 
 pub use whole_line::read_line;

@@ -13,9 +13,6 @@ ghost use Rattle.amm_model.specs.Sound.{IsSound};
 ghost use Rattle.amm_model.specs.Swap.{IsFee};
 ghost use Rattle.amm_state.specs.Tx.{Meets};
 
-#[cfg(test)]
-mod tests;
-
 use amm_model::{Fault, Holder, PoolName, Refusal, TokenName, UserName};
 use amm_state::{Book, Mark, Tx};
 use std::alloc::Global;

@@ -21,9 +21,6 @@ use amm_pair::{Loan, abandon_loan, close_loan, open_loan};
 use amm_state::{Mark, Tx};
 use std::alloc::Global;
 
-#[cfg(test)]
-mod tests;
-
 /// What runs between a loan and its return.
 ///
 /// It is called with a clean mark, a sound ledger, and the lending pair locked. The end of its call

@@ -4,8 +4,6 @@
 mod amounts;
 mod market;
 mod path;
-#[cfg(test)]
-mod tests;
 mod walk;
 
 ghost use Rattle.std.specs.Prelude.{◌≡◌, ◌≢◌, ◌<◌, [], IfOk, length, map, slice_index_or};

@@ -11,8 +11,6 @@ mod source;
 mod standard;
 mod stream;
 mod sure;
-#[cfg(test)]
-mod tests;
 mod whole;
 
 pub use memory::{MemSink, MemSource};

@@ -34,6 +34,3 @@ pub fn open_legs_delivered(problem: &OpenProblem, legs: &[Leg]) -> Option<u64>
     }
     Some(progress.held_of_target(problem, legs))
 }
-
-#[cfg(test)]
-mod tests;

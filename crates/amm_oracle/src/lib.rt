@@ -10,8 +10,6 @@
 mod averages;
 mod observing;
 mod queries;
-#[cfg(test)]
-mod tests;
 mod worth;
 
 pub use observing::observe;

@@ -16,8 +16,6 @@ mod protocol;
 mod records;
 mod surplus;
 mod swaps;
-#[cfg(test)]
-mod tests;
 
 pub use loans::{Loan, abandon_loan, close_loan, open_loan};
 pub use mint_burn::{burn, mint};

@@ -3,7 +3,5 @@
 
 mod reply_row;
 mod reply_writer;
-#[cfg(test)]
-mod tests;
 
 pub use reply_writer::{write, write_answer};

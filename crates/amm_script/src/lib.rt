@@ -11,8 +11,6 @@ mod asset;
 mod borrower;
 mod run;
 mod settlement;
-#[cfg(test)]
-mod tests;
 
 pub use asset::known;
 pub use borrower::{ScriptBorrower, flash_script};

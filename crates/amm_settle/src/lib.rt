@@ -14,8 +14,6 @@ mod as_quoted;
 mod legs;
 mod performing;
 mod settling;
-#[cfg(test)]
-mod tests;
 
 pub use performing::{has_parts, perform};
 pub use settling::settle;

@@ -32,6 +32,3 @@ pub use source::part_amount;
 pub use spreads::{one_spread_value, spread};
 pub use values::greatest_value;
 pub use ways::{best_of_ways, best_two_way};
-
-#[cfg(test)]
-mod tests;

@@ -14,8 +14,6 @@ mod observations;
 mod rows;
 mod seed;
 mod state;
-#[cfg(test)]
-mod tests;
 mod tx;
 
 pub use book::Book;

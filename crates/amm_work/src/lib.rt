@@ -13,8 +13,6 @@ mod draws;
 mod law;
 mod lines;
 mod names;
-#[cfg(test)]
-mod tests;
 mod work_line;
 
 pub use law::{lines_read_back, lines_take_no_route};

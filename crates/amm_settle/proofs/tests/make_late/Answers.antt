@@ -1,8 +1,0 @@
-use Rattle.std.proofs.Common.{arith}
-use Rattle.amm_model.specs.Sound.{IsSound}
-use Rattle.amm_model.proofs.PlainSound.{set_time_sound}
-use Rattle.amm_state.proofs.Meets.{on_ok}
-use Rattle.amm_settle.proofs.tests.make_late.Goals as goal
-
-pub returns-clause-sound : goal.returns-clause-sound
-returns-clause-sound c = on_ok IsSound _ _ _ _ c.set_time.ensures (λ made is. set_time_sound _ _ made is (omega arith) c.requires.sound)

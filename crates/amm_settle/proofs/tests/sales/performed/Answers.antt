@@ -1,5 +1,0 @@
-use Rattle.amm_settle.proofs.LegsPay.{legs_there}
-use Rattle.amm_settle.proofs.tests.sales.performed.Goals as goal
-
-pub is_ready-requires : goal.is_ready-requires
-is_ready-requires c = record { there = legs_there c.args.quote.now.problem.pools _ _ c.args.quote.now.route.legs c.requires.delivers.0 }

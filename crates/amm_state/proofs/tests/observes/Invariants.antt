@@ -1,6 +1,0 @@
-use Rattle.std.proofs.Common.{◌≡◌}
-use Rattle.amm_state.specs.declared.mark.Mark.TheVariants.{Clean}
-use Rattle.amm_state.proofs.tests.observes.Given as goal
-
-abbrev pub invariant-observations : goal.invariant-observations
-invariant-observations l = l.tx.mark ≡ Clean
