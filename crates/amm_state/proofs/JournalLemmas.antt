@@ -1,5 +1,5 @@
 -- A journal after one more change, and after one is undone.
-use Rattle.std.proofs.Common.{◌≡◌, ℕ, ◌+◌, ◌-◌, ◌≤◌, Bool, true, false, cond, Some, List, [], ◌∷◌, ◌||◌, refl, sym, ap, subst, ◌∙◌, arith}
+use Rattle.std.proofs.Common.{◌≡◌, ℕ, ◌+◌, ◌-◌, ◌≤◌, Bool, true, false, cond, Some, Ok, List, [], ◌∷◌, ◌||◌, refl, sym, ap, subst, ◌∙◌, arith}
 use Rattle.std.proofs.lemmas.Bool.{or_right}
 use Rattle.std.specs.Cmp.{eq_by_cmp_equiv}
 use Rattle.std.specs.FinMap as map
@@ -14,9 +14,11 @@ use Rattle.amm_model.proofs.Names.{same_asset_is}
 use Rattle.amm_model.proofs.LedgerLemmas.{total-set_balance, balance_within_total, balance-set_here, set_balance-back}
 use Rattle.amm_state.specs.declared.journal.Undo.{Undo}
 use Rattle.amm_state.specs.declared.journal.Undo.TheVariants.{Balance, Token, NewPair, Pair, NewQuote, NewObservation, FeeTo, Setter, Time}
+use Rattle.amm_state.specs.declared.rows.Before.{Before}
 use Rattle.amm_state.specs.Rows.{Holders}
 use Rattle.amm_state.specs.Assets.{Rows, holders_at, has_row}
 use Rattle.amm_state.specs.Book.{BookView, with_balance, with_ledger, with_pairs}
+use Rattle.amm_state.specs.Moves.{of_book, IsMoved}
 use Rattle.amm_model.specs.declared.pair.PairRecord.{PairRecord}
 use Rattle.amm_state.proofs.AssetLemmas.{holders_at-insert}
 use Rattle.amm_state.proofs.BookLemmas.{set_pair-back}
@@ -83,23 +85,22 @@ module _ (changes noted : List Undo) (book new : BookView) (a : Asset) (h : Hold
       }
 
 -- units were moved: two more balances were changed
-module _ (changes noted : List Undo) (book new : BookView) (a : Asset) (f t : Holder) (n sender receiver : ℕ) (is : noted ≡ Balance a t receiver ∷ Balance a f sender ∷ changes)
-    (had : sender ≡ balance book.ledger a f) (got : receiver ≡ balance (set_balance book.ledger a f (sender - n)) a t)
-    (next : new ≡ with_balance (with_balance book a f (sender - n)) a t (receiver + n)) (r : IsRevertible changes book) (limit : total book.ledger a ≤ AMOUNT_LIMIT) where
+module _ (changes noted : List Undo) (book new : BookView) (a : Asset) (f t : Holder) (n : ℕ) (b : Before) (is : noted ≡ Balance a t b.receiver ∷ Balance a f b.sender ∷ changes)
+    (moved : IsMoved (of_book a) book new f t n (Ok b)) (r : IsRevertible changes book) where
   abbrev less : BookView
-  less = with_balance book a f (sender - n)
+  less = with_balance book a f (b.sender - n)
 
-  taken_back : IsRevertible (Balance a f sender ∷ changes) less
-  taken_back = balance_changed changes _ book less a f (sender - n) sender refl had refl r limit
+  taken_back : IsRevertible (Balance a f b.sender ∷ changes) less
+  taken_back = balance_changed changes _ book less a f (b.sender - n) b.sender refl moved.sender refl r moved.limit
 
   pub move_leads_back : undo_all noted new.ledger ≡ undo_all changes book.ledger
-  move_leads_back = balance_leads_back (Balance a f sender ∷ changes) noted less new a t (receiver + n) receiver is got next taken_back
-      ∙ balance_leads_back changes _ book less a f (sender - n) sender refl had refl r
+  move_leads_back = balance_leads_back (Balance a f b.sender ∷ changes) noted less new a t (b.receiver + n) b.receiver is moved.receiver moved.ok taken_back
+      ∙ balance_leads_back changes _ book less a f (b.sender - n) b.sender refl moved.sender refl r
 
   pub move_changed : IsRevertible noted new
   move_changed =
-      let sums = total-set_balance book.ledger a f (sender - n) in
-      balance_changed (Balance a f sender ∷ changes) noted less new a t (receiver + n) receiver is got next taken_back (omega arith)
+      let sums = total-set_balance book.ledger a f (b.sender - n) in
+      balance_changed (Balance a f b.sender ∷ changes) noted less new a t (b.receiver + n) b.receiver is moved.receiver moved.ok taken_back (omega (arith, moved.sender, moved.funds, moved.limit))
 
 -- one more pair was changed
 module _ (changes noted : List Undo) (book new : BookView) (pool : List ℕ) (old pair : PairRecord) (is : noted ≡ Pair pool old ∷ changes)

@@ -5,6 +5,7 @@ ghost use Rattle.amm_model.specs.declared.fault.Refusal.TheVariants as refusal;
 ghost use Rattle.amm_model.specs.Ledger.{amount, sum_held, holdings_of};
 ghost use Rattle.amm_model.specs.declared.limits.TheConstants.{AMOUNT_LIMIT};
 ghost use Rattle.amm_state.specs.Assets.{with_amount, has_row};
+ghost use Rattle.amm_state.specs.Moves.{of_asset, IsMoved};
 ghost use Rattle.amm_state.specs.Rows.{Because};
 
 use crate::Seed;
@@ -109,13 +110,7 @@ impl Assets {
         n: u64,
     ) -> Result<Before, Fault>
         requires { 0 < n }
-        ensures sender { IfOk result (λ before. before.sender ≡ amount (holdings_of self.old.holdings asset.now) from.now) }
-        ensures funds { IfOk result (λ before. n ≤ before.sender) }
-        ensures receiver { IfOk result (λ before. before.receiver ≡ amount (holdings_of (with_amount self.old asset.now from.now (before.sender - n)).holdings asset.now) to.now) }
-        ensures limit { OnOk result (sum_held (holdings_of self.old.holdings asset.now) ≤ AMOUNT_LIMIT) }
-        ensures ok { IfOk result (λ before. self.new ≡ with_amount (with_amount self.old asset.now from.now (before.sender - n)) asset.now to.now (before.receiver + n)) }
-        ensures fault { IfErr result (λ fault. Because fault refusal.Funds (amount (holdings_of self.old.holdings asset.now) from.now < n)) }
-        ensures err { OnErr result (self.new ≡ self.old) }
+        ensures moved { IsMoved (of_asset asset.now) self.old self.new from.now to.now n result }
     {
         let Some(rows) = self.tables.get_mut(asset) else {
             return Err(Fault::Refused(Refusal::Funds));

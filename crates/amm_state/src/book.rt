@@ -2,10 +2,11 @@
 ghost use Rattle.std.specs.Prelude.{◌≡◌, ◌+◌, ◌-◌, ◌<◌, ◌≤◌, ◌++◌, ◌∷◌, [], false, take, OnOk, OnErr, IfOk, IfErr, IfSome, IfNone, Some, IsTrue, length, None, slice_get};
 ghost use Rattle.std.specs.FinMap as map;
 ghost use Rattle.amm_model.specs.declared.fault.Refusal.TheVariants as refusal;
-ghost use Rattle.amm_model.specs.Ledger.{balance, set_balance, total, is_listed, opening_ledger, pair_of, quote_of, observation_at, set_pair, zero_pair, with_fee_to, with_quote, with_observation, with_setter};
+ghost use Rattle.amm_model.specs.Ledger.{balance, total, is_listed, opening_ledger, pair_of, quote_of, observation_at, set_pair, zero_pair, with_fee_to, with_quote, with_observation, with_setter};
 ghost use Rattle.amm_model.specs.declared.limits.TheConstants.{AMOUNT_LIMIT};
 ghost use Rattle.amm_state.specs.Assets.{has_row};
 ghost use Rattle.amm_state.specs.Book.{with_balance, with_ledger, with_token, without_token, without_quote, without_observation, with_pairs, with_time};
+ghost use Rattle.amm_state.specs.Moves.{of_book, IsMoved};
 ghost use Rattle.amm_state.specs.Rows.{Because};
 ghost use Rattle.std.specs.List.{list_any};
 ghost use Rattle.std.specs.Map.{values_of};
@@ -244,13 +245,7 @@ impl Book {
         n: u64,
     ) -> Result<Before, Fault>
         requires { 0 < n }
-        ensures sender { IfOk result (λ before. before.sender ≡ balance self.old.ledger asset.now from.now) }
-        ensures funds { IfOk result (λ before. n ≤ before.sender) }
-        ensures receiver { IfOk result (λ before. before.receiver ≡ balance (set_balance self.old.ledger asset.now from.now (before.sender - n)) asset.now to.now) }
-        ensures limit { OnOk result (total self.old.ledger asset.now ≤ AMOUNT_LIMIT) }
-        ensures ok { IfOk result (λ before. self.new ≡ with_balance (with_balance self.old asset.now from.now (before.sender - n)) asset.now to.now (before.receiver + n)) }
-        ensures fault { IfErr result (λ fault. Because fault refusal.Funds (balance self.old.ledger asset.now from.now < n)) }
-        ensures err { OnErr result (self.new ≡ self.old) }
+        ensures moved { IsMoved (of_book asset.now) self.old self.new from.now to.now n result }
     {
         self.assets.move_units(asset, from, to, n)
     }

@@ -5,6 +5,7 @@ ghost use Rattle.indexmap.specs.IndexMap.{spare};
 ghost use Rattle.amm_model.specs.declared.fault.Refusal.TheVariants as refusal;
 ghost use Rattle.amm_model.specs.Ledger.{amount, sum_held};
 ghost use Rattle.amm_model.specs.declared.limits.TheConstants.{AMOUNT_LIMIT};
+ghost use Rattle.amm_state.specs.Moves.{of_rows, IsMoved};
 ghost use Rattle.amm_state.specs.Rows.{table_of, empty_table, with_row, Because};
 
 use crate::Seed;
@@ -161,13 +162,7 @@ impl AssetRows {
     /// fewer.
     pub fn move_units(&mut self, from: &Holder, to: &Holder, n: u64) -> Result<Before, Fault>
         requires { 0 < n }
-        ensures sender { IfOk result (λ before. before.sender ≡ amount self.old.held from.now) }
-        ensures funds { IfOk result (λ before. n ≤ before.sender) }
-        ensures receiver { IfOk result (λ before. before.receiver ≡ amount (with_row self.old from.now (before.sender - n)).held to.now) }
-        ensures limit { OnOk result (sum_held self.old.held ≤ AMOUNT_LIMIT) }
-        ensures ok { IfOk result (λ before. self.new ≡ with_row (with_row self.old from.now (before.sender - n)) to.now (before.receiver + n)) }
-        ensures fault { IfErr result (λ fault. Because fault refusal.Funds (amount self.old.held from.now < n)) }
-        ensures err { OnErr result (self.new ≡ self.old) }
+        ensures moved { IsMoved of_rows self.old self.new from.now to.now n result }
     {
         // With room for a new row nothing can fail once the sender's is written.
         self.rows.reserve(1)?;

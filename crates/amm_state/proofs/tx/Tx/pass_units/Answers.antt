@@ -20,23 +20,23 @@ returns-then-n-eq0-clause-ok c =
 pub invariant_of-self-2 : goal.invariant_of-self-2
 invariant_of-self-2 c =
     let b = c.in_ok-before.before in
-    let e = c.in_ok-before.ensures in
+    let moved = c.in_ok-before.ensures.moved in
     let noted = c.note-2.ensures.noted ∙ ap (λ (changes : List Undo). Balance c.args.asset.now c.args.to.now b.receiver ∷ changes)
     (c.note.ensures.noted ∙ ap (λ (changes : List Undo). Balance c.args.asset.now c.args.from.now b.sender ∷ changes) c.reserve.ensures.same) in
-    move_changed c.self.inside.journal.changes _ c.deref_mut.result.now _ c.args.asset.now c.args.from.now c.args.to.now c.args.n b.sender b.receiver noted e.sender e.receiver e.ok (subst (IsRevertible c.self.inside.journal.changes) (sym c.deref_mut.ensures.value) c.self.invariant) e.limit
+    move_changed c.self.inside.journal.changes _ c.deref_mut.result.now _ c.args.asset.now c.args.from.now c.args.to.now c.args.n b noted moved (subst (IsRevertible c.self.inside.journal.changes) (sym c.deref_mut.ensures.value) c.self.invariant)
 
 pub returns-clause-ok : goal.returns-clause-ok
 returns-clause-ok c =
     let b = c.in_ok-before.before in
-    let e = c.in_ok-before.ensures in
+    let moved = c.in_ok-before.ensures.moved in
     let noted = c.note-2.ensures.noted ∙ ap (λ (changes : List Undo). Balance c.args.asset.now c.args.to.now b.receiver ∷ changes)
     (c.note.ensures.noted ∙ ap (λ (changes : List Undo). Balance c.args.asset.now c.args.from.now b.sender ∷ changes) c.reserve.ensures.same) in
-    let opening = move_leads_back c.self.inside.journal.changes _ c.deref_mut.result.now _ c.args.asset.now c.args.from.now c.args.to.now c.args.n b.sender b.receiver noted e.sender e.receiver e.ok (subst (IsRevertible c.self.inside.journal.changes) (sym c.deref_mut.ensures.value) c.self.invariant) e.limit
+    let opening = move_leads_back c.self.inside.journal.changes _ c.deref_mut.result.now _ c.args.asset.now c.args.from.now c.args.to.now c.args.n b noted moved (subst (IsRevertible c.self.inside.journal.changes) (sym c.deref_mut.ensures.value) c.self.invariant)
     ∙ ap (λ (b : BookView). undo_all c.self.inside.journal.changes b.ledger) c.deref_mut.ensures.value
     ∙ ap (λ (t : TxView). t.opening) c.self.view_is in
-    let present = ap (λ (x : BookView). x.ledger) e.ok
-    ∙ ap (λ (k : ℕ). set_balance (set_balance c.deref_mut.result.now.ledger c.args.asset.now c.args.from.now (b.sender - c.args.n)) c.args.asset.now c.args.to.now (k + c.args.n)) e.receiver
-    ∙ ap (λ (k : ℕ). with_more (set_balance c.deref_mut.result.now.ledger c.args.asset.now c.args.from.now (k - c.args.n)) c.args.asset.now c.args.to.now c.args.n) e.sender
+    let present = ap (λ (x : BookView). x.ledger) moved.ok
+    ∙ ap (λ (k : ℕ). set_balance (set_balance c.deref_mut.result.now.ledger c.args.asset.now c.args.from.now (b.sender - c.args.n)) c.args.asset.now c.args.to.now (k + c.args.n)) moved.receiver
+    ∙ ap (λ (k : ℕ). with_more (set_balance c.deref_mut.result.now.ledger c.args.asset.now c.args.from.now (k - c.args.n)) c.args.asset.now c.args.to.now c.args.n) moved.sender
     ∙ ap (λ (b : BookView). with_transfer b.ledger c.args.asset.now c.args.from.now c.args.to.now c.args.n) c.deref_mut.ensures.value
     ∙ ap (λ (t : TxView). with_transfer t.present c.args.asset.now c.args.from.now c.args.to.now c.args.n) c.self.view_is in
     let mark = ap (λ (t : TxView). t.mark) c.self.view_is in
