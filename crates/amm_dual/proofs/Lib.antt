@@ -4,3 +4,6 @@ pub mod Steps
 pub mod Duality
 pub mod Skips
 pub mod Shared
+pub mod Values
+pub mod TradeLaw
+pub mod LineLaw

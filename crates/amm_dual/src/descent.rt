@@ -5,9 +5,12 @@ ghost use Rattle.amm_model.specs.Bound.{bound_of, price_of};
 ghost use Rattle.amm_model.specs.Settled.{IsSettled, prices_after, price_after as stepped_of, prices_after_turn};
 ghost use Rattle.amm_dual.specs.Moves.{IsNoHelp, NoHelpBelow, NoHelpAt, Helps, turns_of, move_of};
 ghost use Rattle.amm_dual.specs.Running.{after};
+ghost use Rattle.amm_dual.specs.Flows.{IsLine};
 ghost use Rattle.amm_dual.specs.Singles.{AreSingles};
 
 use crate::changes::{Change, Changes};
+use crate::flows::no_amounts;
+use crate::lines::{Line, line_of, rules_out};
 use crate::lower::lower_prices;
 use crate::moves::{Move, move_at, move_count};
 use crate::pairs::{Slots, bound_with};
@@ -30,7 +33,11 @@ pub fn descended(alloc: Global, problem: &OpenProblem, start: &Prices) -> Result
     lower_prices(&mut running);
     let mut list = no_singles(alloc, problem)?;
     let singles = list.as_mut_slice();
-    while pass(&mut running, singles) {}
+    let mut list_of_given = no_amounts(alloc, problem)?;
+    let given = list_of_given.as_mut_slice();
+    let mut list_of_taken = no_amounts(alloc, problem)?;
+    let taken = list_of_taken.as_mut_slice();
+    while pass(&mut running, singles, given, taken) {}
     Ok(running.into_prices())
 }
 
@@ -64,8 +71,17 @@ pub fn open_settled(alloc: Global, problem: &OpenProblem, prices: &Prices) -> Re
 }
 
 // Takes each move that helps, one after the other; whether any did.
-fn pass(running: &mut Running<'_>, singles: &mut [Single]) -> bool
+fn pass(
+    running: &mut Running<'_>,
+    singles: &mut [Single],
+    given: &mut [u128],
+    taken: &mut [u128],
+) -> bool
     requires singles { AreSingles running.old.problem running.old.prices singles.old }
+    requires given { length given.old ≡ length running.old.problem.tokens }
+    requires taken { length taken.old ≡ length running.old.problem.tokens }
+    ensures given { length given.new ≡ length running.new.problem.tokens }
+    ensures taken { length taken.new ≡ length running.new.problem.tokens }
     ensures singles { AreSingles running.new.problem running.new.prices singles.new }
     ensures problem { running.new.problem ≡ running.old.problem }
     ensures many { length running.new.prices ≡ length running.old.prices }
@@ -75,14 +91,66 @@ fn pass(running: &mut Running<'_>, singles: &mut [Single]) -> bool
 {
     let count = move_count(running.problem());
     let mut before = running.bound();
+    let mut line = line_of(running, given, taken);
     let mut helped = false;
     for n in 0..count {
-        if improve_at(running, singles, n, before) {
+        if improve_past(running, singles, given, taken, &mut line, n, before) {
             helped = true;
             before = running.bound();
         }
     }
     helped
+}
+
+// As `improve_at`, which is left out where the line tells that the move does not help. A move that
+// is taken draws another line.
+fn improve_past(
+    running: &mut Running<'_>,
+    singles: &mut [Single],
+    given: &mut [u128],
+    taken: &mut [u128],
+    line: &mut Line,
+    n: usize,
+    before: u128,
+) -> bool
+    requires singles { AreSingles running.old.problem running.old.prices singles.old }
+    requires line { IsLine running.old.problem running.old.prices given.old taken.old line.old }
+    requires number { n < 64 * (length running.old.problem.tokens + length running.old.problem.pools) }
+    requires before { before ≡ bound_of running.old.problem running.old.prices }
+    requires below { before < 2 ^ 108 }
+    ensures singles { AreSingles running.new.problem running.new.prices singles.new }
+    ensures line { IsLine running.new.problem running.new.prices given.new taken.new line.new }
+    ensures problem { running.new.problem ≡ running.old.problem }
+    ensures many { length running.new.prices ≡ length running.old.prices }
+    ensures unit { price_of running.new.problem.tokens running.new.prices running.new.problem.t ≡ price_of running.old.problem.tokens running.old.prices running.old.problem.t }
+    ensures lower { result ≡ true → bound_of running.new.problem running.new.prices < bound_of running.old.problem running.old.prices }
+    ensures kept { result ≡ false → running.new.prices ≡ running.old.prices }
+    ensures steady { result ≡ false → NoHelpAt running.old.problem running.old.prices n }
+{
+    if is_ruled_out(running, given, taken, *line, n) {
+        return false;
+    }
+    if !improve_at(running, singles, n, before) {
+        return false;
+    }
+    *line = line_of(running, given, taken);
+    true
+}
+
+// Whether the line tells that the move of this number does not help, or there is none.
+fn is_ruled_out(running: &Running<'_>, given: &[u128], taken: &[u128], line: Line, n: usize) -> bool
+    requires line { IsLine running.now.problem running.now.prices given.now taken.now line }
+    requires number { n < 64 * (length running.now.problem.tokens + length running.now.problem.pools) }
+    ensures { result ≡ true → NoHelpAt running.now.problem running.now.prices n }
+{
+    let problem = running.problem();
+    let Some(step) = move_at(problem, n) else {
+        return true;
+    };
+    let Some(changes) = changes_of(running, step) else {
+        return true;
+    };
+    rules_out(running, given, taken, line, changes)
 }
 
 // Takes the move of this number, if there is one and it helps; whether it did.

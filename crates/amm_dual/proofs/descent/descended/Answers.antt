@@ -25,6 +25,8 @@ loop-singles-init c =
     record {
       singles = subst (λ (list : List Single). AreSingles running.problem running.prices list) (sym c.as_mut_slice-singles.ensures.value)
           (subst (λ (o : OpenView). AreSingles o running.prices c.in_ok-list.list.items) (sym same) (c.in_ok-list.ensures running.prices));
+      given = ap length c.as_mut_slice-given.ensures.value ∙ c.in_ok-list_of_given.ensures ∙ sym (ap (λ (o : OpenView). length o.tokens) same);
+      taken = ap length c.as_mut_slice-taken.ensures.value ∙ c.in_ok-list_of_taken.ensures ∙ sym (ap (λ (o : OpenView). length o.tokens) same);
       problem = same;
       many = c.lower_prices.ensures.many ∙ ap length prices ∙ c.requires.many;
       unit = c.lower_prices.ensures.unit ∙ ap (λ (o : OpenView). price_of o.tokens c.in_ok-running.running.prices o.t) c.in_ok-running.ensures.problem

@@ -6,6 +6,8 @@ use Rattle.amm_dual.proofs.descent.descended.Given as goal
 abbrev pub invariant-loop-singles : goal.invariant-loop-singles
 invariant-loop-singles l = record {
   singles : AreSingles l.running.problem l.running.prices l.singles;
+  given : length l.given ≡ length l.running.problem.tokens;
+  taken : length l.taken ≡ length l.running.problem.tokens;
   problem : l.running.problem ≡ l.problem;
   many : length l.running.prices ≡ length l.problem.tokens;
   unit : price_of l.running.problem.tokens l.running.prices l.running.problem.t ≡ 2 ^ 20;
