@@ -1,4 +1,5 @@
 pub mod Gifts
 pub mod Middles
+pub mod Ceilings
 pub mod Steps
 pub mod Law

@@ -8,6 +8,7 @@ ghost use Rattle.amm_cycle.specs.Chains.{AreGiven, IsBegun, IsFound, IsMost, IsM
 use crate::chain::Chain;
 use crate::found::{Found, judged};
 use crate::powers::Powers;
+use crate::reach::is_within;
 use amm_graph::side;
 use amm_model::{Hop, OpenProblem};
 
@@ -98,13 +99,34 @@ fn follow(
     ensures more { kept.profit ≤ result.profit }
     ensures most { (rest : List hop_view.Hop) → IsCycle problem.now.pools problem.now.t (hops_of begun.now ++ hop ∷ rest) → IsMost problem.now.pools (hops_of begun.now ++ hop ∷ rest) result.profit }
 {
-    let longer = begun.with(hop);
-    let given = powers.with(problem, hop);
     if next == problem.target() {
-        return judged(problem, &longer, &given, kept);
+        return closed(problem, begun, hop, powers, kept);
     }
+    let longer = begun.with(hop);
     if longer.count == MOST_HOPS {
         return kept;
     }
+    let given = powers.with(problem, hop);
     extend(problem, &longer, next, &given, kept)
+}
+
+// The better of what is kept and of the cycle that this hop closes, of which nothing is worked out
+// where on no power of two it can bring half as much.
+fn closed(problem: &OpenProblem, begun: &Chain, hop: Hop, powers: &Powers, kept: Found) -> Found
+    requires short { begun.now.count < 4 }
+    requires cycle { IsCycle problem.now.pools problem.now.t (hops_of begun.now ++ hop ∷ []) }
+    requires powers { AreGiven problem.now.pools (hops_of begun.now) powers.now.amounts }
+    requires kept { IsFound problem.now.pools problem.now.t kept }
+    ensures found { IsFound problem.now.pools problem.now.t result }
+    ensures more { kept.profit ≤ result.profit }
+    ensures most { IsMost problem.now.pools (hops_of begun.now ++ hop ∷ []) result.profit }
+{
+    // Where some power brings half of what is kept, an input between the powers may bring more.
+    let most = (kept.profit / 2).saturating_sub(1);
+    if is_within(problem, powers, hop, most) {
+        return kept;
+    }
+    let longer = begun.with(hop);
+    let given = powers.with(problem, hop);
+    judged(problem, &longer, &given, kept)
 }

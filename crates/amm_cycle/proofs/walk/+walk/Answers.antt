@@ -1,28 +1,25 @@
-use Rattle.std.proofs.Common.{◌∙◌, arith}
+use Rattle.std.proofs.Common.{◌∙◌, ◌++◌, ◌∷◌, [], arith, refl}
+use Rattle.std.proofs.lemmas.List.{length-take}
 use Rattle.std.proofs.lemmas.Grind.{common_steps}
 use Rattle.amm_cycle.specs.Chains.{hops_of}
 use Rattle.amm_cycle.proofs.Gifts.{given-more}
 use Rattle.amm_cycle.proofs.Steps.{begun_long, begun_more, cycle_closed, leads_past_target, leads_to_target, met_apart, met_closed, met_long, met_on, none_over, some_over, two_tokens}
 use Rattle.amm_cycle.proofs.walk.+walk.Goals as goal
 
-pub follow-judged-requires-clause-cycle : goal.follow-judged-requires-clause-cycle
-follow-judged-requires-clause-cycle t c =
+pub follow-closed-requires-clause-cycle : goal.follow-closed-requires-clause-cycle
+follow-closed-requires-clause-cycle t c =
     let problem = c.args.problem.now in
     let sound = c.target.ensures.sound in
-    let long = begun_long (hops_of c.args.begun.now) (hops_of c.with-longer.result) c.args.hop c.args.begun.now.count c.with-longer.ensures.hops (c.with-longer.ensures.long ∙ c.with-longer.ensures.count) in
-    cycle_closed problem.pools problem.t (hops_of c.args.begun.now) (hops_of c.with-longer.result) c.args.hop (two_tokens problem sound) (omega (arith, long, c.requires.short))
-    (leads_to_target problem c.args.next c.target.result c.args.hop sound c.target.ensures.place c.requires.leads c.if-next-target.true) c.with-longer.ensures.hops c.requires.begun
-
-pub follow-judged-requires-clause-powers : goal.follow-judged-requires-clause-powers
-follow-judged-requires-clause-powers t c =
-    given-more c.args.problem.now.pools (hops_of c.args.begun.now) (hops_of c.with-longer.result) c.args.hop c.args.powers.now.amounts c.with-given.result.amounts c.requires.powers
-    c.with-longer.ensures.hops c.with-given.ensures.long c.with-given.ensures.each c.with-given.ensures.below
+    let longer = hops_of c.args.begun.now ++ c.args.hop ∷ [] in
+    cycle_closed problem.pools problem.t (hops_of c.args.begun.now) longer c.args.hop (two_tokens problem sound) (omega (arith, length-take c.args.begun.now.count c.args.begun.now.hops, c.requires.short))
+    (leads_to_target problem c.args.next c.target.result c.args.hop sound c.target.ensures.place c.requires.leads c.if-next-target.true) refl c.requires.begun
 
 pub follow-returns-then-next-target-clause-most : goal.follow-returns-then-next-target-clause-most
 follow-returns-then-next-target-clause-most t c =
     let problem = c.args.problem.now in
-    met_closed problem.pools problem.t (hops_of c.args.begun.now) (hops_of c.with-longer.result) c.args.hop c.judged.result.profit
-    (leads_to_target problem c.args.next c.target.result c.args.hop c.target.ensures.sound c.target.ensures.place c.requires.leads c.if-next-target.true) c.with-longer.ensures.hops c.judged.ensures.most
+    let longer = hops_of c.args.begun.now ++ c.args.hop ∷ [] in
+    met_closed problem.pools problem.t (hops_of c.args.begun.now) longer c.args.hop c.closed.result.profit
+    (leads_to_target problem c.args.next c.target.result c.args.hop c.target.ensures.sound c.target.ensures.place c.requires.leads c.if-next-target.true) refl c.closed.ensures.most
 
 pub follow-returns-then-longer-eq-MOST_HOPS-clause-most : goal.follow-returns-then-longer-eq-MOST_HOPS-clause-most
 follow-returns-then-longer-eq-MOST_HOPS-clause-most t c =
