@@ -1,14 +1,15 @@
 //! A command within one transaction, and the text of its reply.
-ghost use Rattle.std.specs.Prelude.{◌≡◌, Ok, OnOk, OnErr};
+ghost use Rattle.std.specs.Prelude.{◌≡◌, ◌≢◌, Ok, OnOk, OnErr};
 ghost use Rattle.amm_state.specs.declared.mark.Mark.{Mark};
 ghost use Rattle.amm_model.specs.CommandView.{view_of};
+ghost use Rattle.amm_model.specs.declared.reply.Answer.{Answer};
 ghost use Rattle.amm_model.specs.Fits.{Fits};
 ghost use Rattle.amm_model.specs.ReplyText.{reply_text, CanBeWritten};
 ghost use Rattle.amm_model.specs.Sound.{IsAtRest};
 ghost use Rattle.amm_engine.specs.Commands.{AnswersCommand, Accepted, Declined};
 
 use crate::dispatch::perform;
-use amm_model::{Answer, Command, Fault, Memory};
+use amm_model::{Answer, Command, Fault, Memory, Refusal};
 use amm_reply::write_answer;
 use amm_state::{State, Tx};
 use std::alloc::Global;
@@ -68,14 +69,31 @@ fn try_command(
     ensures refused { result ≡ Ok Trial.Declined → Declined tx.old.present number (view_of command.now) text.new.items }
 {
     match perform(alloc, tx, command) {
-        Ok(answer) => {
-            write_reply(text, number, &answer)?;
-            Ok(Trial::Accepted)
-        }
-        Err(Fault::Refused(why)) => {
-            write_reply(text, number, &Answer::Refused(why))?;
-            Ok(Trial::Declined)
-        }
+        Ok(answer) => accept(text, number, answer),
+        Err(Fault::Refused(why)) => decline(text, number, why),
         Err(Fault::Memory) => Err(Memory),
+    }
+}
+
+// Each of the two ends is a call of its own: an answer is a wide enum, and a `?` in the function
+// that owns one takes the prover minutes.
+fn accept(text: &mut Vec<u8>, number: u64, answer: Answer) -> Result<Trial, Memory>
+    requires { CanBeWritten answer }
+    ensures kind { result ≢ Ok Trial.Declined }
+    ensures written { OnOk result (text.new.items ≡ reply_text (record { line = number; answer = answer })) }
+{
+    match write_reply(text, number, &answer) {
+        Ok(()) => Ok(Trial::Accepted),
+        Err(Memory) => Err(Memory),
+    }
+}
+
+fn decline(text: &mut Vec<u8>, number: u64, why: Refusal) -> Result<Trial, Memory>
+    ensures kind { result ≢ Ok Trial.Accepted }
+    ensures written { OnOk result (text.new.items ≡ reply_text (record { line = number; answer = Answer.Refused why })) }
+{
+    match write_reply(text, number, &Answer::Refused(why)) {
+        Ok(()) => Ok(Trial::Declined),
+        Err(Memory) => Err(Memory),
     }
 }
