@@ -79,6 +79,9 @@ SPLITS = {
     "chain 24/69": markets.chain,
     "dense 22/231": markets.dense,
     "three fees 12/84": markets.three_fees,
+    "fine units 10/24": ordinary(10, 24, depth=(32, 46)),
+    "fine units 16/60": ordinary(16, 60, depth=(32, 46)),
+    "fine units 64/256": ordinary(64, 256, depth=(32, 46)),
     "arbitrage 16/60": ordinary(16, 60, noise=0.05),
     "arbitrage 64/256": ordinary(64, 256, noise=0.05),
     "tiny pools 16/60": ordinary(16, 60, worths=1, depth=(10, 13)),
@@ -103,6 +106,9 @@ CYCLES = {
     "cycle, ordinary 64/256": ordinary(64, 256),
     "cycle, tiny pools 16/60": ordinary(16, 60, worths=1, depth=(10, 13)),
 }
+# Of the splits: near one market's prices in usual units, and the same in fine ones.
+USUAL = list(SPLITS)[:10]
+FINE = [kind for kind in SPLITS if kind.startswith("fine units")]
 KINDS = {
     **{kind: (split, market) for kind, market in SPLITS.items()},
     **{kind: (basket(count), market) for kind, (count, market) in BASKETS.items()},
@@ -165,7 +171,7 @@ class Findings:
     """What was measured of a kind."""
 
     def __init__(self):
-        self.bound_gaps, self.gaps, self.gains, self.times, self.user = [], [], [], [], []
+        self.bound_gaps, self.gaps, self.heights, self.gains, self.times, self.user = [], [], [], [], [], []
 
     def add(self, kind, seed, runs):
         task_of, market_of = KINDS[kind]
@@ -185,11 +191,22 @@ class Findings:
         self.bound_gaps.append(ppm(int(bound), delivered))
         best = min(int(bound), best_delivered(market, task, dict(prices)))
         self.gaps.append(max(0, ppm(best, delivered)))
+        self.heights.append(ppm(int(bound), best))
 
     def row(self, kind):
         gains = [told(self.gains)] if kind in BASKETS else []
         columns = [told(self.bound_gaps), told(self.gaps), *gains, told(self.times, 1)]
         return f"{kind:24} {len(self.gaps):3}/{len(self.times):<3} {' '.join(columns)}"
+
+
+def summary(name, group):
+    """How far a group of splits is below the best of all real routes, and how far their bounds are above it."""
+    gaps = sorted(gap for findings in group for gap in findings.gaps)
+    if gaps:
+        tenth = gaps[len(gaps) * 9 // 10]
+        height = max(height for findings in group for height in findings.heights)
+        print(f"{name}, {len(gaps)} routes, below the best: median {statistics.median(gaps):.2f}, tenth worst {tenth:.2f}, worst {gaps[-1]:.2f} ppm")
+        print(f"{'':{len(name)}}  bounds above the best: at most {height:.2f} ppm")
 
 
 def main():
@@ -199,13 +216,16 @@ def main():
         chosen = [kind for kind in words[2:] or kinds if kind in kinds]
         if chosen:
             head(word)
+        found = {}
         for kind in chosen:
-            findings = Findings()
+            findings = found[kind] = Findings()
             for seed in range(1, seeds + 1):
                 findings.add(kind, seed, runs)
             print(findings.row(kind), flush=True)
             if word == "cycle" and kind.endswith("64/256"):
                 print(f"{'':24} at most {max(findings.user):.3f} s of user time; {CYCLE_SECONDS} s are aimed at")
+        summary("near one market's prices", [found[kind] for kind in USUAL if kind in found])
+        summary("the same in fine units", [found[kind] for kind in FINE if kind in found])
 
 
 if __name__ == "__main__":
